@@ -1,0 +1,2 @@
+-- Laws of lists and cells.
+pub mod Laws

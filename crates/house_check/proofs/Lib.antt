@@ -1,0 +1,10 @@
+-- Laws of the check.
+pub mod Xor
+pub mod Step
+pub mod Window
+pub mod Bits
+pub mod Remainder
+pub mod Burst
+pub mod Linear
+pub mod Sharp
+pub mod Cells

@@ -1,0 +1,3 @@
+-- The model of the HOUSE check.
+pub mod Check
+pub mod Area
