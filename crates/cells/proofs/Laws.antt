@@ -6,9 +6,9 @@ use mathlib.Core.List.{List, [], _∷_, _++_, map, append-nil, append-assoc, map
 use native.Mathlib.Numerals.{add-one}
 use native.Mathlib.Omega.{arith}
 use native.Mathlib.Nat.{add-zero}
-use lib.ListN.{length, getD, take, drop, set, replicate, length-append, length-take, length-drop, length-map, length-replicate, take-append-drop, List·getD-map}
-use lib.Seq.{drop-cons, set-at, append-snoc, take-suc, getD-drop}
-use Rattle.cells.specs.Bytes.{part, overlay}
+use lib.ListN.{length, getD, take, drop, set, replicate, length-append, length-take, length-drop, length-map, length-replicate, take-append-drop, List·getD-map, List·getD-append}
+use lib.Seq.{length-take-le, take-append-seam, take-at, drop-at, drop-append-add, drop-drop, getD-append-add, drop-cons, set-at, append-snoc, getD-take, getD-drop}
+use Rattle.cells.specs.Bytes.{part, overlay, padded}
 use Rattle.cells.specs.Cells.{byteOf, cellOf, bytesOf, cellsOf}
 
 -- ---- bytes of cells
@@ -20,6 +20,21 @@ length-bytesOf t = length-map t byteOf
 pub getD-bytesOf : (t : List ℕ) (i : ℕ) → getD (bytesOf t) i 0 ≡ byteOf (getD t i 0)
 unfolding bytesOf
 getD-bytesOf t i = List·getD-map byteOf t i 0
+
+-- ---- a part of a list
+
+module _ (l : List ℕ) (at : ℕ) where
+  pub length-part : (n : ℕ) → at + n ≤ length l → length (part l at n) ≡ n
+  unfolding part
+  length-part n h = simp (length-take, length-drop) (omega arith)
+
+  pub part-cons : (n : ℕ) → at < length l → part l at (suc n) ≡ getD l at 0 ∷ part l (suc at) n
+  unfolding part
+  part-cons n h = ap (take (suc n)) (drop-cons l at 0 h)
+
+  pub getD-part : (n i : ℕ) → i < n → getD (part l at n) i 0 ≡ getD l (at + i) 0
+  unfolding part
+  getD-part n i h = getD-take n (drop at l) i 0 h ∙ getD-drop at l i 0
 
 -- ---- a list with another laid over it
 
@@ -39,3 +54,67 @@ overlay-snoc l at v x h =
     let long : length (take at l ++ v) ≡ at + length v = simp (length-append, length-take) (omega arith) in
     let more : at + length (v ++ (x ∷ [])) ≡ suc (at + length v) = simp length-append (omega arith) in
     rw (drop-cons l (at + length v) 0 h, set-at (take at l ++ v) _ _ x (at + length v) long, more, ← append-assoc (take at l) v (x ∷ []), append-snoc)
+
+-- what is laid over, taken out again
+pub part-overlay : (l : List ℕ) (at : ℕ) (v : List ℕ) → at + length v ≤ length l → part (overlay l at v) at (length v) ≡ v
+unfolding part overlay
+part-overlay l at v h =
+    let e : length (take at l) ≡ at = length-take-le at l (omega arith) in
+    ap (λ (x : List ℕ). take (length v) (drop at x)) (append-assoc (take at l) v (drop (at + length v) l))
+    ∙ ap (take (length v)) (drop-at (take at l) (v ++ drop (at + length v) l) at e)
+    ∙ take-append-seam v (drop (at + length v) l)
+
+-- one laid over after the other is both laid over at once
+pub overlay-append : (l : List ℕ) (at : ℕ) (v w : List ℕ) → at + length v + length w ≤ length l
+    → overlay (overlay l at v) (at + length v) w ≡ overlay l at (v ++ w)
+unfolding overlay
+overlay-append l at v w h =
+    let long : length (take at l ++ v) ≡ at + length v = simp (length-append, length-take) (omega arith) in
+    let front : take (at + length v) (take at l ++ v ++ drop (at + length v) l) ≡ take at l ++ v =
+    take-at (take at l ++ v) (drop (at + length v) l) (at + length v) long in
+    let back : drop (at + length v + length w) (take at l ++ v ++ drop (at + length v) l) ≡ drop (at + length (v ++ w)) l =
+    ap (λ (k : ℕ). drop (k + length w) (take at l ++ v ++ drop (at + length v) l)) (sym long)
+    ∙ drop-append-add (take at l ++ v) (drop (at + length v) l) (length w)
+    ∙ drop-drop (length w) (at + length v) l
+    ∙ ap (λ (k : ℕ). drop k l) {x = at + length v + length w} {y = at + length (v ++ w)} (omega (arith, length-append v w)) in
+    ap₂ (λ (x y : List ℕ). x ++ w ++ y) front back
+    ∙ ap (λ (x : List ℕ). x ++ drop (at + length (v ++ w)) l) (append-assoc (take at l) v w)
+
+-- outside of what is laid over nothing changes
+pub overlay-before : (l : List ℕ) (at : ℕ) (v : List ℕ) (i : ℕ) → at ≤ length l → i < at → getD (overlay l at v) i 0 ≡ getD l i 0
+unfolding overlay
+overlay-before l at v i k h =
+    let e : length (take at l) ≡ at = length-take-le at l k in
+    ap (λ (x : List ℕ). getD x i 0) (append-assoc (take at l) v (drop (at + length v) l))
+    ∙ List·getD-append (take at l) (v ++ drop (at + length v) l) 0 i (omega arith) ∙ getD-take at l i 0 h
+
+pub overlay-behind : (l : List ℕ) (at : ℕ) (v : List ℕ) (i : ℕ) → at ≤ length l → at + length v ≤ i → getD (overlay l at v) i 0 ≡ getD l i 0
+unfolding overlay
+overlay-behind l at v i k h =
+    let long : length (take at l ++ v) ≡ at + length v = simp (length-append, length-take) (omega arith) in
+    let e : length (take at l ++ v) + (i - (at + length v)) ≡ i = omega arith in
+    let f : at + length v + (i - (at + length v)) ≡ i = omega arith in
+    ap (λ (j : ℕ). getD (take at l ++ v ++ drop (at + length v) l) j 0) (sym e)
+    ∙ getD-append-add (take at l ++ v) (drop (at + length v) l) (i - (at + length v)) 0
+    ∙ getD-drop (at + length v) l (i - (at + length v)) 0 ∙ ap (λ (j : ℕ). getD l j 0) f
+
+-- one element stored
+pub set-overlay : (l : List ℕ) (at x : ℕ) → at < length l → set l at x ≡ overlay l at (x ∷ [])
+set-overlay l at x h =
+    ap (λ (y : List ℕ). set y at x) (sym (overlay-none l at)) ∙ ap (λ (k : ℕ). set (overlay l at []) k x) (sym (add-zero at))
+    ∙ overlay-snoc l at [] x (omega arith)
+
+-- ---- bytes with zeros for those that are missing
+
+pub length-padded : (n : ℕ) (v : List ℕ) → length (padded n v) ≡ n
+unfolding padded
+length-padded zero v = refl
+length-padded (suc n) [] = ap suc (length-padded n [])
+length-padded (suc n) (b ∷ v) = ap suc (length-padded n v)
+
+pub padded-snoc : (n : ℕ) (v : List ℕ) → padded (suc n) v ≡ padded n v ++ (getD v n 0 ∷ [])
+unfolding padded
+padded-snoc zero [] = refl
+padded-snoc zero (b ∷ v) = refl
+padded-snoc (suc n) [] = ap (λ (x : List ℕ). 0 ∷ x) (padded-snoc n [])
+padded-snoc (suc n) (b ∷ v) = ap (λ (x : List ℕ). b ∷ x) (padded-snoc n v)

@@ -1,2 +1,4 @@
 -- Laws of lists and cells.
 pub mod Laws
+pub mod Marks
+pub mod Numbers

@@ -1,7 +1,7 @@
 -- Lists of numbers: parts, fields of several bytes, unsigned numbers. Assumes nothing.
-use Prim.Native.Nat.{ℕ, _+_, _*_}
+use Prim.Native.Nat.{ℕ, zero, suc, _+_, _*_}
 use mathlib.Core.List.{List, [], _∷_, _++_}
-use lib.ListN.{length, getD, take, drop, replicate}
+use lib.ListN.{length, getD, take, drop}
 
 -- n elements of l from an index on
 unfoldable pub part : List ℕ → ℕ → ℕ → List ℕ
@@ -13,7 +13,9 @@ overlay l at v = take at l ++ v ++ drop (at + length v) l
 
 -- n bytes of v: missing bytes are zeros, surplus is left
 unfoldable pub padded : ℕ → List ℕ → List ℕ
-padded n v = take n (v ++ replicate n 0)
+padded zero v = []
+padded (suc n) [] = 0 ∷ padded n []
+padded (suc n) (b ∷ v) = b ∷ padded n v
 
 -- fields of two and of three bytes, high byte first
 abbrev pub be16 : List ℕ → ℕ → ℕ

@@ -13,8 +13,10 @@ use lib.Seq.{drop-cons, take-append-seam, getD-append-seam, getD-append-add}
 use Rattle.cells.specs.Choice.{pick, both}
 use Rattle.cells.specs.Cells.{byteOf, cellOf, isByte, bytesOf, cellsOf, allBytes}
 use Rattle.cells.proofs.Laws.{length-bytesOf, getD-bytesOf}
+use Rattle.cells.proofs.Marks.{both-never}
+use Rattle.cells.proofs.Numbers.{Bytes}
 use Rattle.house_check.specs.Check.{feed, bitOf, byteBits, bits, check}
-use Rattle.house_check.specs.Area.{Area, agrees, goodCells, checked, laid, Burst, window}
+use Rattle.house_check.specs.Area.{Area, agrees, goodCells, sixteen, checked, laid, Burst, window}
 use Rattle.house_check.proofs.Window.{feed-lt}
 use Rattle.house_check.proofs.Bits.{bits-Bits}
 use Rattle.house_check.proofs.Remainder.{agrees-zero, zero-agrees}
@@ -73,10 +75,6 @@ clean-end cells i r h =
 
 -- ---- an area's cells
 
-never : (b : Bool) → both b false ≡ false
-never true = refl
-never false = refl
-
 -- n + 2 cells are an area
 pub cells-area : (n : ℕ) (t : List ℕ) → length t ≡ n + 2 → Area n (bytesOf t)
 cells-area n t e = record {
@@ -113,15 +111,11 @@ unfolding goodCells
 burst-cells n s t t′ e e′ B q =
     ap (λ (b : Bool). both (eqb (length t′) (n + 2)) (both (allBytes t′) b))
     (burst n s (bytesOf t) (bytesOf t′) (cells-area n t e) (cells-area n t′ e′) B q)
-    ∙ ap (both (eqb (length t′) (n + 2))) (never (allBytes t′)) ∙ never (eqb (length t′) (n + 2))
+    ∙ ap (both (eqb (length t′) (n + 2))) (both-never (allBytes t′)) ∙ both-never (eqb (length t′) (n + 2))
 
 -- ---- what is laid is good
 
--- each is a byte
-abbrev pub Bytes : List ℕ → Type 0
-Bytes v = (i : ℕ) → getD v i 0 < 256
-
-cells-bytes : (v : List ℕ) → Bytes v → bytesOf (cellsOf v) ≡ v
+pub cells-bytes : (v : List ℕ) → Bytes v → bytesOf (cellsOf v) ≡ v
 unfolding bytesOf cellsOf
 cells-bytes [] h = refl
 cells-bytes (b ∷ v) h = let x : b < 256 = h 0 in ap₂ _∷_ {x = (256 + b) % 256} {y = b} (omega arith) (cells-bytes v (λ i. h (suc i)))
@@ -142,7 +136,7 @@ append-bytes [] w h k i = k i
 append-bytes (b ∷ v) w h k zero = h 0
 append-bytes (b ∷ v) w h k (suc i) = append-bytes v w (λ j. h (suc j)) k i
 
-check-bytes : (v : List ℕ) → Bytes (check v / 256 ∷ check v % 256 ∷ [])
+check-bytes : (v : List ℕ) → Bytes (sixteen (check v))
 check-bytes v zero = omega (arith, check-lt v)
 check-bytes v (suc zero) = omega arith
 check-bytes v (suc (suc i)) = omega arith
@@ -151,18 +145,18 @@ check-bytes v (suc (suc i)) = omega arith
 pub checked-agrees : (v : List ℕ) → agrees (length v) (checked v) ≡ true
 unfolding agrees checked
 checked-agrees v =
-    eq-eqb (check (take (length v) (v ++ (check v / 256 ∷ check v % 256 ∷ [])))) (getD (v ++ (check v / 256 ∷ check v % 256 ∷ [])) (length v) 0 * 256 + getD (v ++ (check v / 256 ∷ check v % 256 ∷ [])) (length v + 1) 0)
+    eq-eqb (check (take (length v) (v ++ (sixteen (check v))))) (getD (v ++ (sixteen (check v))) (length v) 0 * 256 + getD (v ++ (sixteen (check v))) (length v + 1) 0)
     (rw (take-append-seam, getD-append-seam, getD-append-add) (omega arith))
 
 pub length-laid : (v : List ℕ) → length (laid v) ≡ length v + 2
 unfolding laid checked cellsOf
-length-laid v = length-map (v ++ (check v / 256 ∷ check v % 256 ∷ [])) cellOf ∙ length-append v (check v / 256 ∷ check v % 256 ∷ [])
+length-laid v = length-map (v ++ (sixteen (check v))) cellOf ∙ length-append v (sixteen (check v))
 
 -- what is laid is a good area
 pub laid-good : (v : List ℕ) → Bytes v → goodCells (length v) (laid v) ≡ true
 unfolding goodCells laid checked
 laid-good v h =
-    let w : List ℕ = v ++ (check v / 256 ∷ check v % 256 ∷ []) in
-    let k : Bytes w = append-bytes v (check v / 256 ∷ check v % 256 ∷ []) h (check-bytes v) in
+    let w : List ℕ = v ++ (sixteen (check v)) in
+    let k : Bytes w = append-bytes v (sixteen (check v)) h (check-bytes v) in
     ap₂ both (eq-eqb (length (cellsOf w)) (length v + 2) (length-laid v))
     (ap₂ both (cells-all w k) (ap (agrees (length v)) (cells-bytes w k) ∙ checked-agrees v))

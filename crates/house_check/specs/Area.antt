@@ -26,9 +26,12 @@ agrees n a = eqb (check (take n a)) (getD a n 0 * 256 + getD a (n + 1) 0)
 unfoldable pub goodCells : ℕ → List ℕ → Bool
 goodCells n t = both (eqb (length t) (n + checkBytes)) (both (allBytes t) (agrees n (bytesOf t)))
 
--- bytes with their check, and the cells that record them
+-- a check's two bytes, high byte first; bytes with their check; and the cells that record them
+abbrev pub sixteen : ℕ → List ℕ
+sixteen x = x / 256 ∷ x % 256 ∷ []
+
 unfoldable pub checked : List ℕ → List ℕ
-checked v = v ++ (check v / 256 ∷ check v % 256 ∷ [])
+checked v = v ++ sixteen (check v)
 
 unfoldable pub laid : List ℕ → List ℕ
 laid v = cellsOf (checked v)

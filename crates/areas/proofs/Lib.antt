@@ -1,0 +1,2 @@
+-- Laws of areas.
+pub mod Laws

@@ -1,0 +1,21 @@
+-- Laws of bytes as one unsigned number: of two of one length, the first byte that differs tells which is less. Assumes nothing.
+use Prim.Native.Nat.{ℕ, zero, suc, _+_, _*_, _<_}
+use mathlib.Core.Path.{_≡_}
+use mathlib.Core.List.{List, [], _∷_}
+use native.Mathlib.Omega.{arith}
+use lib.ListN.{length, getD}
+use Rattle.cells.specs.Bytes.{numberFrom}
+
+-- each is a byte
+abbrev pub Bytes : List ℕ → Type 0
+Bytes v = (i : ℕ) → getD v i 0 < 256
+
+-- what is less stays less, whatever bytes follow
+pub number-less : (p q : ℕ) (u v : List ℕ) → length u ≡ length v → Bytes u → p < q → numberFrom p u < numberFrom q v
+unfolding numberFrom
+number-less p q [] [] l h k = k
+number-less p q [] (c ∷ v) l h k = absurd (omega arith)
+number-less p q (b ∷ u) [] l h k = absurd (omega arith)
+number-less p q (b ∷ u) (c ∷ v) l h k =
+    let x : b < 256 = h 0 in
+    number-less (p * 256 + b) (q * 256 + c) u v (omega arith) (λ i. h (suc i)) (omega arith)

@@ -1,0 +1,2 @@
+-- The model of a search's comparison.
+pub mod Compare

@@ -1,0 +1,103 @@
+-- Laws of the hunt: one cell on, none left, and that cells before 7 make no difference. Assumes nothing.
+use Prim.Native.Nat.{ℕ, zero, suc, _+_, _-_, _<_, _≤_, max}
+use mathlib.Core.Path.{_≡_, refl, sym, ap, _∙_}
+use mathlib.Core.Bool.{Bool, true, false}
+use mathlib.Core.List.{List, [], _∷_}
+use native.Mathlib.Numerals.{add-one}
+use native.Mathlib.Nat.{zero-add}
+use native.Mathlib.Omega.{arith}
+use native.Mathlib.Decide.{decLt}
+use lib.ListN.{length, getD, drop, drop-of-length-le, List·getD-eq-default}
+use lib.Seq.{drop-cons}
+use lib.Dec.{eqb}
+use borrow.Author.Tests.{le-leb, lt-ltb, le-ltb}
+use Rattle.cells.specs.Choice.{pick, both}
+use Rattle.cells.specs.Cells.{markAt, marks}
+use Rattle.cells.proofs.Marks.{length-marks, getD-marks, mark-here, mark-none, mark-low}
+use Rattle.hunt.specs.declared.Found.{Found}
+use Rattle.hunt.specs.declared.Found.the-variants.{At, Nothing}
+use Rattle.hunt.specs.declared.Spot.the-variants.{Zero, Marker}
+use Rattle.hunt.specs.declared.Next.{Next}
+use Rattle.hunt.specs.declared.Next.the-variants.{Stands, NoMarker}
+use Rattle.hunt.specs.Hunt.{scan, hunt, pastIndex, aheadOr, nextRecord, nextId, spacedTo, spaceRecord}
+
+module _ (t : List ℕ) (p : ℕ) where
+  -- by what stands in cell p
+  hunt-by : (b : Bool) → markAt t p ≡ b → p < length t → hunt (marks t) p ≡ pick b (At p) (hunt (marks t) (suc p))
+  unfolding hunt scan
+  hunt-by b e h =
+      let k : p < length (marks t) = omega (arith, length-marks t) in
+      ap (λ (m : List Bool). scan m p) (drop-cons (marks t) p false k)
+      ∙ ap (λ (x : Bool). pick x (At p) (scan (drop (suc p) (marks t)) (suc p))) (getD-marks t p ∙ e)
+
+  pub hunt-here : p < length t → 7 ≤ p → getD t p 0 ≡ 512 → hunt (marks t) p ≡ At p
+  hunt-here h k e = hunt-by true (mark-here t p k e) h
+
+  pub hunt-on : p < length t → (getD t p 0 ≡ 512 → ⊥) → hunt (marks t) p ≡ hunt (marks t) (p + 1)
+  hunt-on h e = hunt-by false (mark-none t p e) h ∙ ap (hunt (marks t)) (sym (add-one p))
+
+  pub hunt-end : length t ≤ p → hunt (marks t) p ≡ Nothing
+  unfolding hunt scan
+  hunt-end h =
+      let k : length (marks t) ≤ p = omega (arith, length-marks t) in
+      ap (λ (m : List Bool). scan m p) (drop-of-length-le (marks t) k)
+
+  low-on : p < 7 → 7 ≤ length t → hunt (marks t) p ≡ hunt (marks t) (suc p)
+  low-on h k = hunt-by false (mark-low t p h) (omega arith)
+
+-- from a place below 7 the hunt is that from 7
+up : (t : List ℕ) (n p : ℕ) → n + p ≡ 7 → 7 ≤ length t → hunt (marks t) p ≡ hunt (marks t) 7
+up t zero p e h = ap (hunt (marks t)) (sym (zero-add p) ∙ e)
+up t (suc n) p e h = low-on t p (omega arith) h ∙ up t n (suc p) (omega arith) h
+
+pub hunt-seven : (t : List ℕ) (p : ℕ) → 7 ≤ length t → hunt (marks t) p ≡ hunt (marks t) (max p 7)
+hunt-seven t p h = go (decLt p 7)
+  where
+    go : Dec (p < 7) → hunt (marks t) p ≡ hunt (marks t) (max p 7)
+    go (yes k) = up t (7 - p) p (omega arith) h ∙ ap (hunt (marks t)) (omega arith)
+    go (no k) = ap (hunt (marks t)) (omega arith)
+
+-- is a marker here: below 7 none, off the track none
+pub mark-off : (t : List ℕ) (p : ℕ) → length t ≤ p → markAt t p ≡ false
+mark-off t p h = mark-none t p (λ e. omega (arith, List·getD-eq-default t 0 h))
+
+pub mark-is : (t : List ℕ) (p : ℕ) → 7 ≤ p → eqb (getD t p 0) 512 ≡ markAt t p
+unfolding markAt
+mark-is t p h = ap (λ (b : Bool). both b (eqb (getD t p 0) 512)) (sym (le-leb 7 p h))
+
+-- ---- the next record, by what the hunt finds
+
+module _ (m : List Bool) (p : ℕ) where
+  pub next-ahead : (q : ℕ) → hunt m p ≡ At q → Stands (Marker q) 0 ≡ nextRecord m p
+  unfolding nextRecord aheadOr
+  next-ahead q e = sym (ap (λ (f : Found). aheadOr f (pastIndex (hunt m 7))) e)
+
+  past : (f : Found) → hunt m p ≡ Nothing → hunt m 7 ≡ f → pastIndex f ≡ nextRecord m p
+  unfolding nextRecord aheadOr
+  past f e g = sym (ap (λ (x : Found). aheadOr x (pastIndex (hunt m 7))) e ∙ ap pastIndex g)
+
+  pub next-past : (q : ℕ) → hunt m p ≡ Nothing → hunt m 7 ≡ At q → Stands (Marker q) 1 ≡ nextRecord m p
+  unfolding pastIndex
+  next-past q e g = past (At q) e g
+
+  pub next-none : hunt m p ≡ Nothing → hunt m 7 ≡ Nothing → NoMarker ≡ nextRecord m p
+  unfolding pastIndex
+  next-none e g = past Nothing e g
+
+  pub id-low : p < 7 → Stands Zero 0 ≡ nextId m p
+  unfolding nextId
+  id-low h = ap (λ (b : Bool). pick b (Stands Zero 0) (aheadOr (hunt m p) (Stands Zero 1))) (sym (lt-ltb p 7 h))
+
+  pub id-high : (f : Found) → 7 ≤ p → hunt m p ≡ f → aheadOr f (Stands Zero 1) ≡ nextId m p
+  unfolding nextId
+  id-high f h e =
+      ap (λ (x : Found). aheadOr x (Stands Zero 1)) (sym e)
+      ∙ ap (λ (b : Bool). pick b (Stands Zero 0) (aheadOr (hunt m p) (Stands Zero 1))) (sym (le-ltb p 7 h))
+
+  pub spaced-to : (b : Bool) (n : Next) → b ≡ false → nextRecord m p ≡ n → spacedTo n ≡ spaceRecord m p b
+  unfolding spaceRecord
+  spaced-to b n g e = ap spacedTo (sym e) ∙ ap (λ (x : Bool). pick x 7 (spacedTo (nextRecord m p))) (sym g)
+
+  pub spaced-home : (b : Bool) → b ≡ true → 7 ≡ spaceRecord m p b
+  unfolding spaceRecord
+  spaced-home b g = ap (λ (x : Bool). pick x 7 (spacedTo (nextRecord m p))) (sym g)

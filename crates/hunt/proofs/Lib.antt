@@ -1,0 +1,2 @@
+-- Laws of the hunt.
+pub mod Laws

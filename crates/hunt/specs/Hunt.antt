@@ -1,0 +1,66 @@
+-- Document 01, "Where the head stands" and "Commands", Space Record: which record is next. It goes by where the markers are and by
+-- nothing else on the track. Assumes nothing.
+use Prim.Native.Nat.{ℕ, suc, _+_}
+use mathlib.Core.Path.{_≡_}
+use mathlib.Core.Bool.{Bool, true, false}
+use mathlib.Core.List.{List, [], _∷_}
+use lib.ListN.{length, drop}
+use lib.Dec.{ltb}
+use Rattle.cells.specs.Choice.{pick}
+use Rattle.cells.specs.Cells.{trackCells, firstMarker}
+use Rattle.hunt.specs.declared.Found.{Found}
+use Rattle.hunt.specs.declared.Found.the-variants.{At, Nothing}
+use Rattle.hunt.specs.declared.Spot.{Spot}
+use Rattle.hunt.specs.declared.Spot.the-variants.{Zero, Marker}
+use Rattle.hunt.specs.declared.Next.{Next}
+use Rattle.hunt.specs.declared.Next.the-variants.{Stands, NoMarker}
+
+-- a whole track
+pub record Whole (t : List ℕ) : Type 0 where
+  pub long : length t ≡ trackCells
+
+-- the first marker of m, whose first cell is numbered p
+unfoldable pub scan : List Bool → ℕ → Found
+scan [] p = Nothing
+scan (b ∷ m) p = pick b (At p) (scan m (suc p))
+
+-- the first marker at or after a place
+unfoldable pub hunt : List Bool → ℕ → Found
+hunt m p = scan (drop p m) p
+
+-- a record is known by the first cell of its count area; that is also the place after work on it
+unfoldable pub countFirst : Spot → ℕ
+countFirst Zero = firstMarker
+countFirst (Marker p) = p + 1
+
+-- what the head comes to past the index, looking from cell 7
+unfoldable pub pastIndex : Found → Next
+pastIndex (At p) = Stands (Marker p) 1
+pastIndex Nothing = NoMarker
+
+-- what it comes to before the index, or else after
+unfoldable pub aheadOr : Found → Next → Next
+aheadOr (At p) after = Stands (Marker p) 0
+aheadOr Nothing after = after
+
+-- the next record is at the first marker at or after the place; with none, the head passes the index and looks from cell 7
+unfoldable pub nextRecord : List Bool → ℕ → Next
+nextRecord m p = aheadOr (hunt m p) (pastIndex (hunt m firstMarker))
+
+-- Search ID takes R0 at a place below 7, or on passing the index
+unfoldable pub nextId : List Bool → ℕ → Next
+nextId m p = pick (ltb p firstMarker) (Stands Zero 0) (aheadOr (hunt m p) (Stands Zero 1))
+
+-- index points that were passed on the way
+unfoldable pub passed : Next → ℕ
+passed (Stands s n) = n
+passed NoMarker = 1
+
+-- the place after the next marker was passed without reading; with no marker at all, past the index, 7
+unfoldable pub spacedTo : Next → ℕ
+spacedTo (Stands s n) = countFirst s
+spacedTo NoMarker = firstMarker
+
+-- Space Record: after home address work 7, else past the next marker
+unfoldable pub spaceRecord : List Bool → ℕ → Bool → ℕ
+spaceRecord m p afterHome = pick afterHome firstMarker (spacedTo (nextRecord m p))

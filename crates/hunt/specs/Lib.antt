@@ -1,0 +1,2 @@
+-- The model of the hunt for a record.
+pub mod Hunt

@@ -1,0 +1,124 @@
+// The hunt for the next record on a track, by its markers.
+ghost use mathlib.Core.Path.{_≡_};
+ghost use Prim.Native.Nat.{max};
+ghost use Rattle.cells.specs.Cells.{marks, markAt};
+ghost use Rattle.hunt.specs.Hunt.{Whole, hunt, countFirst, nextRecord, nextId, passed, spaceRecord};
+
+// The cell of a marker, or that there is none.
+pub enum Found {
+    At(u16),
+    Nothing,
+}
+
+// A record: R0, or the one whose marker is in a cell.
+pub enum Spot {
+    Zero,
+    Marker(u16),
+}
+
+// Where the head comes to: a record, with the index points passed on the way, or past the index with no marker at all.
+pub enum Next {
+    Stands(Spot, u8),
+    NoMarker,
+}
+
+// Whether a cell of a track holds a marker.
+pub fn is_marker(track: &[u16], at: u16) -> bool
+    ensures { λ r. ⌜ r ≡ markAt (now (track .entry)) at ⌝ }
+{
+    let i = at as usize;
+    if i < 7 {
+        return false;
+    }
+    if track.len() <= i {
+        return false;
+    }
+    track[i] == 512
+}
+
+// The first cell at or after a place that can hold a marker.
+fn from_seven(place: u16) -> u16
+    ensures { λ r. ⌜ r ≡ max place 7 ⌝ }
+{
+    if place < 7 {
+        return 7;
+    }
+    place
+}
+
+// The first marker at or after a place.
+pub fn next_marker(track: &[u16], place: u16) -> Found
+    requires { ⌜ Whole (now track) ⌝ }
+    ensures { λ r. ⌜ r ≡ hunt (marks (now (track .entry))) place ⌝ }
+{
+    let mut i = from_seven(place);
+    while i < 4096 {
+        if track[i as usize] == 512 {
+            return Found::At(i);
+        }
+        i += 1;
+    }
+    Found::Nothing
+}
+
+// The next record: the first marker at or after the place, else past the index.
+pub fn next_record(track: &[u16], place: u16) -> Next
+    requires { ⌜ Whole (now track) ⌝ }
+    ensures { λ r. ⌜ r ≡ nextRecord (marks (now (track .entry))) place ⌝ }
+{
+    if let Found::At(p) = next_marker(track, place) {
+        return Next::Stands(Spot::Marker(p), 0);
+    }
+    match next_marker(track, 7) {
+        Found::At(p) => Next::Stands(Spot::Marker(p), 1),
+        Found::Nothing => Next::NoMarker,
+    }
+}
+
+// The record that Search ID takes.
+pub fn next_id(track: &[u16], place: u16) -> Next
+    requires { ⌜ Whole (now track) ⌝ }
+    ensures { λ r. ⌜ r ≡ nextId (marks (now (track .entry))) place ⌝ }
+{
+    if place < 7 {
+        return Next::Stands(Spot::Zero, 0);
+    }
+    match next_marker(track, place) {
+        Found::At(p) => Next::Stands(Spot::Marker(p), 0),
+        Found::Nothing => Next::Stands(Spot::Zero, 1),
+    }
+}
+
+// The first cell of a record's count area.
+pub fn count_first(spot: Spot) -> u32
+    ensures { λ r. ⌜ r ≡ countFirst spot ⌝ }
+{
+    match spot {
+        Spot::Zero => 7,
+        Spot::Marker(p) => p as u32 + 1,
+    }
+}
+
+// The place after Space Record.
+pub fn space_record(track: &[u16], place: u16, after_home: bool) -> u32
+    requires { ⌜ Whole (now track) ⌝ }
+    ensures { λ r. ⌜ r ≡ spaceRecord (marks (now (track .entry))) place «after_home» ⌝ }
+{
+    if after_home {
+        return 7;
+    }
+    match next_record(track, place) {
+        Next::Stands(spot, _) => count_first(spot),
+        Next::NoMarker => 7,
+    }
+}
+
+// The index points passed on the way to a record.
+pub fn index_passed(next: Next) -> u8
+    ensures { λ r. ⌜ r ≡ passed next ⌝ }
+{
+    match next {
+        Next::Stands(_, n) => n,
+        Next::NoMarker => 1,
+    }
+}

@@ -1,0 +1,2 @@
+-- The model of the file mask.
+pub mod Mask

@@ -1,0 +1,40 @@
+-- Document 01, "Commands", the file mask: which bytes are masks, and what a mask bars. Bit 0 is the leftmost. Assumes nothing.
+use Prim.Native.Nat.{ℕ, _/_, _%_}
+use mathlib.Core.Bool.{Bool, true, false}
+use mathlib.Core.List.{List, [], _∷_}
+use lib.ListN.{getD}
+use lib.Dec.{eqb}
+use Rattle.cells.specs.Choice.{pick, both}
+use Rattle.mask.specs.declared.Writing.{Writing}
+use Rattle.mask.specs.declared.Writing.the-variants.{HomeOrZero, Record, Update}
+use Rattle.mask.specs.declared.Seeking.{Seeking}
+use Rattle.mask.specs.declared.Seeking.the-variants.{Seek, SeekCylinder, SeekHead}
+
+-- bits 0 and 1, and bits 3 and 4, each pair a number 0 to 3
+abbrev pub writeBits : ℕ → ℕ
+writeBits m = m / 64
+
+abbrev pub seekBits : ℕ → ℕ
+seekBits m = m / 8 % 4
+
+-- the other bits, 2 and 5 to 7, must be 0
+unfoldable pub legal : ℕ → Bool
+legal m = both (eqb (m / 32 % 2) 0) (eqb (m % 8) 0)
+
+-- whether writing is barred with bits 0 and 1 at 00, 01, 10, 11, in that order
+unfoldable pub writesBarred : Writing → List Bool
+writesBarred HomeOrZero = true ∷ true ∷ true ∷ false ∷ []
+writesBarred Record = false ∷ true ∷ true ∷ false ∷ []
+writesBarred Update = false ∷ true ∷ false ∷ false ∷ []
+
+-- whether seeking is barred with bits 3 and 4 at 00, 01, 10, 11, in that order
+unfoldable pub seeksBarred : Seeking → List Bool
+seeksBarred Seek = false ∷ true ∷ true ∷ true ∷ []
+seeksBarred SeekCylinder = false ∷ false ∷ true ∷ true ∷ []
+seeksBarred SeekHead = false ∷ false ∷ false ∷ true ∷ []
+
+unfoldable pub barsWrite : ℕ → Writing → Bool
+barsWrite m w = getD (writesBarred w) (writeBits m) false
+
+unfoldable pub barsSeek : ℕ → Seeking → Bool
+barsSeek m s = getD (seeksBarred s) (seekBits m) false

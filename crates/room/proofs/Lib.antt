@@ -1,0 +1,2 @@
+-- Laws of room left.
+pub mod Laws

@@ -1,0 +1,2 @@
+-- The model of room left.
+pub mod Room

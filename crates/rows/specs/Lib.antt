@@ -1,0 +1,2 @@
+-- The model of the Unit Check table.
+pub mod Rows

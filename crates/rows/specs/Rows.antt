@@ -1,0 +1,38 @@
+-- Document 01, "Channel words", the Unit Check table, row by row: sense bytes 0 and 1, and the bytes moved. Assumes nothing.
+use Prim.Native.Nat.{ℕ, min}
+use Rattle.rows.specs.declared.Row.{Row}
+use Rattle.rows.specs.declared.Row.the-variants.{UnknownCode, BadMask, SecondMask, WrongBefore, SeekBarred, WriteBarred, BadSeek, Unreadable, UnreadableCount, NoRoom, NoMarker, SecondIndex}
+use Rattle.rows.specs.declared.Sense.{Sense}
+
+abbrev pub sense : ℕ → ℕ → Sense
+sense b0 b1 = record { byte0 = b0; byte1 = b1 }
+
+unfoldable pub senseOf : Row → Sense
+senseOf UnknownCode = sense 0x80 0x00
+senseOf BadMask = sense 0x80 0x00
+senseOf SecondMask = sense 0x80 0x10
+senseOf WrongBefore = sense 0x80 0x10
+senseOf SeekBarred = sense 0x00 0x04
+senseOf WriteBarred = sense 0x80 0x04
+senseOf BadSeek = sense 0x81 0x00
+-- an unreadable home address, key or data area; an unreadable count area
+senseOf Unreadable = sense 0x08 0x00
+senseOf UnreadableCount = sense 0x08 0x80
+senseOf NoRoom = sense 0x00 0x40
+senseOf NoMarker = sense 0x00 0x02
+senseOf SecondIndex = sense 0x00 0x08
+
+-- of a command whose count is n
+unfoldable pub movedBy : Row → ℕ → ℕ
+movedBy UnknownCode n = 0
+movedBy BadMask n = 1
+movedBy SecondMask n = 0
+movedBy WrongBefore n = 0
+movedBy SeekBarred n = 0
+movedBy WriteBarred n = 0
+movedBy BadSeek n = min n 6
+movedBy Unreadable n = 0
+movedBy UnreadableCount n = 0
+movedBy NoRoom n = min n 8
+movedBy NoMarker n = 0
+movedBy SecondIndex n = 0

@@ -1,0 +1,3 @@
+-- The model of the channel's words.
+pub mod Words
+pub mod Status

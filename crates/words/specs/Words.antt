@@ -1,0 +1,96 @@
+-- Document 01, "Channel words": the address word, command words, program checks in their order. Assumes nothing.
+use Prim.Native.Nat.{ℕ, _+_, _/_, _%_}
+use mathlib.Core.Bool.{Bool, true, false}
+use mathlib.Core.List.{List}
+use lib.ListN.{length, getD}
+use lib.Dec.{ltb, leb, eqb}
+use Rattle.cells.specs.Choice.{pick, both}
+use Rattle.cells.specs.Bytes.{be16, be24}
+use Rattle.words.specs.declared.Word.{Word}
+use Rattle.words.specs.declared.Begun.{Begun}
+use Rattle.words.specs.declared.Begun.the-variants.{Begins, Refused}
+use Rattle.words.specs.declared.Cause.{Cause}
+use Rattle.words.specs.declared.Cause.the-variants.{Place, TicAfterTic, Flags, NoCount, Code, Area}
+use Rattle.words.specs.declared.Tested.{Tested}
+use Rattle.words.specs.declared.Tested.the-variants.{Obey, Jump, Bad}
+
+-- HOUSE: every next word's address, and the status word's, is taken modulo 2 to the 24
+abbrev pub addresses : ℕ
+addresses = 16777216
+
+abbrev pub along : ℕ → ℕ → ℕ
+along at by = (at + by) % addresses
+
+-- ---- the address word, at 72: key, four zero bits, 24-bit address
+
+abbrev pub addressWord : ℕ
+addressWord = 72
+
+unfoldable pub begunBy : List ℕ → Begun
+begunBy s =
+    pick (eqb (getD s addressWord 0 % 16) 0) (Begins (getD s addressWord 0 / 16) (be24 s (addressWord + 1))) Refused
+
+-- ---- a command word, 8 bytes: code, address (3), flags, an ignored byte, count (2)
+
+abbrev pub wordBytes : ℕ
+wordBytes = 8
+
+unfoldable pub wordAt : List ℕ → ℕ → Word
+wordAt s at = record {
+  code = getD s at 0;
+  address = be24 s (at + 1);
+  flags = getD s (at + 4) 0;
+  count = be16 s (at + 6);
+}
+
+-- flag 40 chains commands, 20 suppresses incorrect length
+abbrev pub chains : Word → Bool
+chains w = eqb (w .flags / 64 % 2) 1
+
+abbrev pub suppresses : Word → Bool
+suppresses w = eqb (w .flags / 32 % 2) 1
+
+-- x8 is a transfer in channel, for any x
+abbrev pub isTic : Word → Bool
+isTic w = eqb (w .code % 16) 8
+
+-- ---- program checks
+
+-- on a multiple of 8, and inside storage
+abbrev pub placed : List ℕ → ℕ → Bool
+placed s at = both (eqb (at % wordBytes) 0) (leb (at + wordBytes) (length s))
+
+-- no flags but 40 and 20
+abbrev pub flagsKnown : Word → Bool
+flagsKnown w = both (ltb (w .flags) 128) (eqb (w .flags % 32) 0)
+
+-- the tests of a word that is no TIC, in order; no later test is made
+unfoldable pub testedCommand : List ℕ → Word → Tested
+testedCommand s w =
+    pick (flagsKnown w)
+    (pick (ltb 0 (w .count))
+    (pick (ltb 0 (w .code % 16))
+    (pick (leb (w .address + w .count) (length s))
+    (Obey w)
+    (Bad Area))
+    (Bad Code))
+    (Bad NoCount))
+    (Bad Flags)
+
+-- the tests of a word after a TIC or not
+unfoldable pub testedWord : List ℕ → Bool → Word → Tested
+testedWord s afterTic w =
+    pick (isTic w) (pick afterTic (Bad TicAfterTic) (Jump (w .address))) (testedCommand s w)
+
+-- the tests of the word at an address of storage
+unfoldable pub tested : List ℕ → ℕ → Bool → Tested
+tested s at afterTic = pick (placed s at) (testedWord s afterTic (wordAt s at)) (Bad Place)
+
+-- a cause's place in document 01's order
+unfoldable pub causeNo : Cause → ℕ
+causeNo Place = 1
+causeNo TicAfterTic = 2
+causeNo Flags = 3
+causeNo NoCount = 4
+causeNo Code = 5
+causeNo Area = 6
