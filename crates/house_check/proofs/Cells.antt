@@ -152,6 +152,11 @@ pub length-laid : (v : List ℕ) → length (laid v) ≡ length v + 2
 unfolding laid checked cellsOf
 length-laid v = length-map (v ++ (sixteen (check v))) cellOf ∙ length-append v (sixteen (check v))
 
+-- the bytes of what is laid
+pub laid-bytes : (v : List ℕ) → Bytes v → bytesOf (laid v) ≡ checked v
+unfolding laid checked
+laid-bytes v h = cells-bytes (v ++ sixteen (check v)) (append-bytes v (sixteen (check v)) h (check-bytes v))
+
 -- what is laid is a good area
 pub laid-good : (v : List ℕ) → Bytes v → goodCells (length v) (laid v) ≡ true
 unfolding goodCells laid checked

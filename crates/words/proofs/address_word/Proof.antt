@@ -1,6 +1,6 @@
 -- The code reads the word's first byte once and the address after it; with these two reads put into the model, its test is the code's.
 use Rattle.words.specs.Words.{begunBy}
-use Rattle.words.proofs.Laws.{tests}
+use Rattle.cells.proofs.Tests.{tests}
 use borrow.Author.Needs.{needs}
 use Rattle.words.proofs.address_word.Statement.{statement}
 use Rattle.words.proofs.address_word.Tie as tie

@@ -1,7 +1,7 @@
 -- A word that is not placed ends at one of two tests; one that is placed is the word that `word_at` reads, with the tests of `test_word`.
 use mathlib.Core.Path.{refl}
 use Rattle.words.specs.Words.{tested}
-use Rattle.words.proofs.Laws.{tests}
+use Rattle.cells.proofs.Tests.{tests}
 use borrow.Author.Needs.{needs}
 use Rattle.words.proofs.test.Statement.{statement}
 use Rattle.words.proofs.test.Tie as tie

@@ -1,6 +1,6 @@
 -- Each return stands behind the tests that the model makes, in their order: with those tests' values put into the model, it comes to the same answer.
 use Rattle.words.specs.Words.{testedCommand}
-use Rattle.words.proofs.Laws.{tests}
+use Rattle.cells.proofs.Tests.{tests}
 use borrow.Author.Needs.{needs}
 use Rattle.words.proofs.test_command.Statement.{statement}
 use Rattle.words.proofs.test_command.Tie as tie

@@ -1,6 +1,6 @@
 -- A word that is no TIC is tested as a command; of a TIC the model asks only, as the code does, whether one came before.
 use Rattle.words.specs.Words.{testedWord}
-use Rattle.words.proofs.Laws.{tests}
+use Rattle.cells.proofs.Tests.{tests}
 use borrow.Author.Needs.{needs}
 use Rattle.words.proofs.test_word.Statement.{statement}
 use Rattle.words.proofs.test_word.Tie as tie

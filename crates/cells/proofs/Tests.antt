@@ -1,4 +1,4 @@
--- What a branch of the code says of the tests of the model.
+-- What a branch of the code says of the tests of the model. Assumes nothing.
 use Prim.Native.Nat.{ℕ}
 use mathlib.Core.Bool.{true, false}
 use mathlib.Core.Path.{_≡_}

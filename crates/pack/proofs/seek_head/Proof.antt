@@ -1,0 +1,17 @@
+-- `pack::seek_head` meets its contract: it makes the model's test. Assumes nothing.
+use Rattle.cells.proofs.Tests.{tests}
+use Rattle.pack.specs.Shapes.{seekHead}
+use borrow.Author.Needs.{needs}
+use Rattle.pack.proofs.seek_head.Statement.{statement}
+use Rattle.pack.proofs.seek_head.Tie as tie
+
+returns : tie.Need-returns
+unfolding seekHead
+returns c = search tests
+
+returns-2 : tie.Need-returns-2
+unfolding seekHead
+returns-2 c = search tests
+
+pub seek-head-spec : {M : Type 1} → statement M
+seek-head-spec = tie.close (tie.spec returns returns-2)

@@ -1,0 +1,3 @@
+-- The model of a pack.
+pub mod Shapes
+pub mod Tracks

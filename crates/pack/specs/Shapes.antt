@@ -1,0 +1,54 @@
+-- Document 01, "What the box stands in for": a pack may be lent with 1 to 203 cylinders and 1 to 10 heads; and
+-- "Commands", a seek's address. Assumes nothing.
+use Prim.Native.Nat.{ℕ, _*_}
+use mathlib.Core.Bool.{Bool, true, false}
+use lib.Dec.{ltb, leb, eqb}
+use Rattle.cells.specs.Choice.{pick, both}
+use Rattle.cells.specs.Cells.{trackCells}
+use Rattle.rows.specs.declared.Row.{Row}
+use Rattle.rows.specs.declared.Row.the-variants.{BadSeek}
+use Rattle.pack.specs.declared.Cylinder.{Cylinder}
+use Rattle.pack.specs.declared.Head.{Head}
+use Rattle.pack.specs.declared.Shape.{Shape}
+use Rattle.pack.specs.declared.Sought.{Sought}
+use Rattle.pack.specs.declared.Sought.the-variants.{Stands, Refused}
+
+abbrev pub mostCylinders : ℕ
+mostCylinders = 203
+
+abbrev pub mostHeads : ℕ
+mostHeads = 10
+
+abbrev pub from1To : ℕ → ℕ → Bool
+from1To most n = both (leb 1 n) (leb n most)
+
+-- a right shape, with the cells that its tracks have
+unfoldable pub packFits : Shape → ℕ → Bool
+packFits g n =
+    both (from1To mostCylinders (g .cylinders))
+    (both (from1To mostHeads (g .heads)) (eqb n (g .cylinders * g .heads * trackCells)))
+
+abbrev pub cylinderOn : Shape → ℕ → Bool
+cylinderOn g cc = ltb cc (g .cylinders)
+
+abbrev pub headOn : Shape → ℕ → Bool
+headOn g hh = ltb hh (g .heads)
+
+-- ---- a seek's address, BB CC HH
+
+-- accepted: the cylinder and head to stand at
+abbrev pub stands : ℕ → ℕ → Sought
+stands cc hh = Stands (record { 0 = cc }) (record { 0 = hh })
+
+-- Seek and Seek Cylinder: BB = 0, CC and HH on the pack
+unfoldable pub seekTo : Shape → ℕ → ℕ → ℕ → Sought
+seekTo g bb cc hh =
+    pick (both (eqb bb 0) (both (cylinderOn g cc) (headOn g hh))) (stands cc hh) Refused
+
+-- Seek Head tests and uses HH only
+unfoldable pub seekHead : Shape → Cylinder → ℕ → Sought
+seekHead g c hh = pick (headOn g hh) (Stands c (record { 0 = hh })) Refused
+
+-- the Unit Check row of an address that is refused
+unfoldable pub refusedRow : Row
+refusedRow = BadSeek

@@ -1,0 +1,106 @@
+-- Laws for the loops that record: one byte more, the check behind the bytes, one gap more. Assumes nothing.
+use Prim.Native.Nat.{ℕ, zero, suc, _+_, _-_, _*_, _/_, _%_, _<_, _≤_}
+use mathlib.Core.Path.{_≡_, refl, sym, ap, ap₂, _∙_, subst}
+use mathlib.Core.List.{List, [], _∷_, _++_, map, map-append, append-nil}
+use native.Mathlib.Numerals.{add-one}
+use native.Mathlib.Omega.{arith}
+use lib.ListN.{length, getD, take, drop, set, replicate, length-set, length-map, length-replicate, length-take, length-append}
+use lib.Seq.{sets-eq, take-suc-set, take-all, append-snoc}
+use Rattle.cells.specs.Bytes.{part, overlay, padded}
+use Rattle.cells.specs.Cells.{cellOf, bytesOf, cellsOf}
+use Rattle.cells.proofs.Laws.{length-overlay, overlay-snoc, overlay-append, part-overlay, set-overlay, length-padded, padded-snoc}
+use Rattle.cells.proofs.Numbers.{Bytes}
+use Rattle.house_check.specs.Check.{check}
+use Rattle.house_check.specs.Area.{sixteen, checked, laid}
+use Rattle.house_check.proofs.Cells.{cells-bytes}
+use Rattle.recording.specs.Recording.{areaWritten, countWritten, wiped}
+
+pub length-cellsOf : (v : List ℕ) → length (cellsOf v) ≡ length v
+unfolding cellsOf
+length-cellsOf v = length-map v cellOf
+
+-- ---- bytes recorded one after another
+
+cells-snoc : (n : ℕ) (v : List ℕ) → cellsOf (padded (n + 1) v) ≡ cellsOf (padded n v) ++ (cellOf (getD v n 0) ∷ [])
+unfolding cellsOf
+cells-snoc n v = ap (λ (k : ℕ). map cellOf (padded k v)) (add-one n) ∙ ap (map cellOf) (padded-snoc n v) ∙ map-append cellOf (padded n v) (getD v n 0 ∷ [])
+
+pub record-more : (t : List ℕ) (first : ℕ) (v : List ℕ) (j : ℕ) → first + j < length t
+    → set (overlay t first (cellsOf (padded j v))) (first + j) (cellOf (getD v j 0)) ≡ overlay t first (cellsOf (padded (j + 1) v))
+record-more t first v j h =
+    let n : length (cellsOf (padded j v)) ≡ j = length-cellsOf (padded j v) ∙ length-padded j v in
+    let k = overlay-snoc t first (cellsOf (padded j v)) (cellOf (getD v j 0)) (omega arith) in
+    ap (λ (m : ℕ). set (overlay t first (cellsOf (padded j v))) (first + m) (cellOf (getD v j 0))) (sym n)
+    ∙ k ∙ ap (overlay t first) (sym (cells-snoc j v))
+
+-- ---- the check behind the bytes
+
+pub check-put : (t : List ℕ) (p x : ℕ) → p + 2 ≤ length t → set (set t p (256 + x / 256)) (p + 1) (256 + x % 256) ≡ overlay t p (cellsOf (sixteen x))
+unfolding overlay cellsOf
+check-put t p x h = rw add-one (sets-eq ((256 + x / 256) ∷ (256 + x % 256) ∷ []) t p h)
+
+-- bytes recorded and then their check: the area is laid
+pub check-behind : (t : List ℕ) (first : ℕ) (w : List ℕ) (n : ℕ) → length w ≡ n → Bytes w → first + n + 2 ≤ length t
+    → overlay (overlay t first (cellsOf w)) (first + n) (cellsOf (sixteen (check (bytesOf (part (overlay t first (cellsOf w)) first n)))))
+    ≡ overlay t first (laid w)
+unfolding laid checked cellsOf
+check-behind t first w n e b h =
+    let l : length (cellsOf w) ≡ n = length-cellsOf w ∙ e in
+    let back : bytesOf (part (overlay t first (cellsOf w)) first n) ≡ w =
+    ap (λ (k : ℕ). bytesOf (part (overlay t first (cellsOf w)) first k)) (sym l)
+    ∙ ap bytesOf (part-overlay t first (cellsOf w) (omega arith)) ∙ cells-bytes w b in
+    ap (λ (x : List ℕ). overlay (overlay t first (cellsOf w)) (first + n) (cellsOf (sixteen (check x)))) back
+    ∙ ap (λ (k : ℕ). overlay (overlay t first (cellsOf w)) (first + k) (cellsOf (sixteen (check w)))) (sym l)
+    ∙ overlay-append t first (cellsOf w) (cellsOf (sixteen (check w))) (omega (arith, length-cellsOf (sixteen (check w))))
+    ∙ ap (overlay t first) (sym (map-append cellOf w (sixteen (check w))))
+
+-- ---- whole areas, by what each call left
+
+padded-bytes : (n : ℕ) (v : List ℕ) → Bytes v → Bytes (padded n v)
+unfolding padded
+padded-bytes zero v h i = omega arith
+padded-bytes (suc n) [] h zero = omega arith
+padded-bytes (suc n) [] h (suc i) = padded-bytes n [] h i
+padded-bytes (suc n) (b ∷ v) h zero = h 0
+padded-bytes (suc n) (b ∷ v) h (suc i) = padded-bytes n v (λ j. h (suc j)) i
+
+module _ (t : List ℕ) (first : ℕ) (v : List ℕ) (bytes : Bytes v) where
+  -- the cells of n bytes w, then their check
+  then-check : (w t₁ t₂ : List ℕ) (n : ℕ) → length w ≡ n → Bytes w → first + n + 2 ≤ length t → t₁ ≡ overlay t first (cellsOf w)
+      → t₂ ≡ overlay t₁ (first + n) (cellsOf (sixteen (check (bytesOf (part t₁ first n))))) → t₂ ≡ overlay t first (laid w)
+  then-check w t₁ t₂ n l b h e f =
+      f ∙ ap (λ (x : List ℕ). overlay x (first + n) (cellsOf (sixteen (check (bytesOf (part x first n)))))) e ∙ check-behind t first w n l b h
+
+  pub area-laid : (n : ℕ) (t₁ t₂ : List ℕ) → first + n + 2 ≤ length t → t₁ ≡ overlay t first (cellsOf (padded n v))
+      → t₂ ≡ overlay t₁ (first + n) (cellsOf (sixteen (check (bytesOf (part t₁ first n))))) → t₂ ≡ areaWritten t first v n
+  unfolding areaWritten
+  area-laid n t₁ t₂ h = then-check (padded n v) t₁ t₂ n (length-padded n v) (padded-bytes n v bytes) h
+
+  pub count-laid : (flag : ℕ) (t₁ t₂ t₃ : List ℕ) → flag < 256 → first + 9 + 2 ≤ length t → t₁ ≡ overlay t first (cellsOf (flag ∷ []))
+      → t₂ ≡ overlay t₁ (first + 1) (cellsOf (padded 8 v))
+      → t₃ ≡ overlay t₂ (first + 9) (cellsOf (sixteen (check (bytesOf (part t₂ first 9))))) → t₃ ≡ countWritten t first flag v
+  unfolding countWritten cellsOf
+  count-laid flag t₁ t₂ t₃ k h e f g =
+      let l : length (padded 8 v) ≡ 8 = length-padded 8 v in
+      let j : t₂ ≡ overlay t first (cellsOf (flag ∷ padded 8 v)) =
+      f ∙ ap (λ (x : List ℕ). overlay x (first + 1) (cellsOf (padded 8 v))) e
+      ∙ overlay-append t first (cellsOf (flag ∷ [])) (cellsOf (padded 8 v)) (omega (arith, length-cellsOf (padded 8 v))) in
+      then-check (flag ∷ padded 8 v) t₂ t₃ 9 (ap suc l) (first-byte k) h j g
+    where
+      first-byte : flag < 256 → Bytes (flag ∷ padded 8 v)
+      first-byte k zero = k
+      first-byte k (suc i) = padded-bytes 8 v bytes i
+
+-- ---- gaps to the end
+
+pub wiped-step : (t : List ℕ) (i : ℕ) → i < length t → wiped t i ≡ wiped (set t i 0) (i + 1)
+unfolding wiped
+wiped-step t i h =
+    let n : length t - i ≡ suc (length t - suc i) = omega arith in
+    rw (add-one, take-suc-set t i 0 h, length-set, n, append-snoc)
+
+pub wiped-end : (t : List ℕ) (i : ℕ) → length t ≤ i → wiped t i ≡ t
+unfolding wiped
+wiped-end t i h =
+    let n : length t - i ≡ 0 = omega arith in
+    rw (take-all i t h, n, append-nil)

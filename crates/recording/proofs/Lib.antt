@@ -1,0 +1,3 @@
+-- Laws of what is recorded.
+pub mod Laws
+pub mod Written

@@ -1,0 +1,32 @@
+-- What is recorded can be read: an area that was written is readable, and reading it returns its bytes. Assumes nothing.
+use Prim.Native.Nat.{ℕ, _+_, _≤_}
+use mathlib.Core.Path.{_≡_, refl, sym, ap, _∙_}
+use mathlib.Core.Bool.{true}
+use mathlib.Core.List.{List, [], _∷_, _++_}
+use native.Mathlib.Omega.{arith}
+use lib.ListN.{length, take}
+use lib.Seq.{take-append-seam}
+use Rattle.cells.specs.Bytes.{part, overlay}
+use Rattle.cells.specs.Cells.{bytesOf, cellsOf}
+use Rattle.cells.proofs.Laws.{part-overlay}
+use Rattle.cells.proofs.Numbers.{Bytes}
+use Rattle.house_check.specs.Check.{check}
+use Rattle.house_check.specs.Area.{goodCells, checked, laid, sixteen}
+use Rattle.house_check.proofs.Cells.{laid-good, length-laid, laid-bytes}
+use Rattle.areas.specs.declared.Part.{Part}
+use Rattle.areas.specs.Areas.{area, areaCells, readable, areaBytes}
+
+module _ (t : List ℕ) (p : Part) (first : ℕ) (v : List ℕ) (bytes : Bytes v) (ends : first + length v + 2 ≤ length t) where
+  cells-are : areaCells (overlay t first (laid v)) (area p first (length v)) ≡ laid v
+  unfolding areaCells
+  cells-are =
+      ap (part (overlay t first (laid v)) first) (sym (length-laid v)) ∙ part-overlay t first (laid v) (omega (arith, length-laid v))
+
+  pub written-readable : readable (overlay t first (laid v)) (area p first (length v)) ≡ true
+  unfolding readable
+  written-readable = ap (goodCells (length v)) cells-are ∙ laid-good v bytes
+
+  pub written-reads-back : areaBytes (overlay t first (laid v)) (area p first (length v)) ≡ v
+  unfolding areaBytes checked
+  written-reads-back =
+      ap (λ (x : List ℕ). take (length v) (bytesOf x)) cells-are ∙ ap (take (length v)) (laid-bytes v bytes) ∙ take-append-seam v (sixteen (check v))

@@ -1,0 +1,2 @@
+-- The model of what is recorded.
+pub mod Recording

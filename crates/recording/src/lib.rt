@@ -1,0 +1,78 @@
+// Areas recorded on a track with their checks, and gaps to a track's end.
+ghost use mathlib.Core.Path.{_≡_};
+ghost use mathlib.Core.List.{[], _∷_};
+ghost use Prim.Native.Nat.{_+_, _<_, _≤_};
+ghost use lib.ListN.{length};
+ghost use Rattle.cells.specs.Bytes.{overlay, part, padded};
+ghost use Rattle.cells.specs.Cells.{bytesOf, cellsOf, cellOf};
+ghost use Rattle.house_check.specs.Area.{sixteen};
+ghost use Rattle.house_check.specs.Check.{check};
+ghost use Rattle.recording.specs.Recording.{areaWritten, countWritten, wiped, Lies};
+
+// The cell that records a byte.
+fn cell_of(b: u8) -> u16
+    ensures { λ r. ⌜ r ≡ cellOf b ⌝ }
+{
+    256 + b as u16
+}
+
+// One byte recorded in a cell.
+fn record_byte(track: &mut [u16], at: usize, b: u8)
+    requires { ⌜ at < length (now track) ⌝ }
+    ensures { λ _. ⌜ now (track .exit) ≡ overlay (now (track .entry)) at (cellsOf (b ∷ [])) ⌝ }
+{
+    track[at] = cell_of(b);
+}
+
+// So many bytes recorded from a cell on: those that are there, then zeros.
+fn record_bytes(track: &mut [u16], first: usize, bytes: &[u8], n: usize)
+    requires { ⌜ first + n ≤ length (now track) ⌝ }
+    ensures { λ _. ⌜ now (track .exit) ≡ overlay (now (track .entry)) first (cellsOf (padded n (now (bytes .entry)))) ⌝ }
+{
+    let mut j = 0;
+    while j < n {
+        track[first + j] = cell_of(cells::byte_at(bytes, j));
+        j += 1;
+    }
+}
+
+// The check of so many recorded bytes, recorded behind them.
+fn record_check(track: &mut [u16], first: usize, n: usize)
+    requires { ⌜ Lies (now track) first n ⌝ }
+    ensures { λ _. ⌜ now (track .exit) ≡ overlay (now (track .entry)) (first + n) (cellsOf (sixteen (check (bytesOf (part (now (track .entry)) first n))))) ⌝ }
+{
+    let end = first + n;
+    let sum = house_check::check_of(&track[first..end]);
+    track[end] = 256 + sum / 256;
+    track[end + 1] = 256 + sum % 256;
+}
+
+// An area of n bytes recorded from a cell on, with its check.
+pub fn write_area(track: &mut [u16], first: usize, bytes: &[u8], n: usize)
+    requires { ⌜ Lies (now track) first n ⌝ }
+    ensures { λ _. ⌜ now (track .exit) ≡ areaWritten (now (track .entry)) first (now (bytes .entry)) n ⌝ }
+{
+    record_bytes(track, first, bytes, n);
+    record_check(track, first, n);
+}
+
+// A count area recorded at a cell, with its check: the flag, then the eight bytes that are sent.
+pub fn write_count(track: &mut [u16], c: usize, flag: u8, bytes: &[u8])
+    requires { ⌜ Lies (now track) c 9 ⌝ }
+    ensures { λ _. ⌜ now (track .exit) ≡ countWritten (now (track .entry)) c flag (now (bytes .entry)) ⌝ }
+{
+    record_byte(track, c, flag);
+    record_bytes(track, c + 1, bytes, 8);
+    record_check(track, c, 9);
+}
+
+// Gaps from a cell to the track's end.
+pub fn wipe(track: &mut [u16], from: usize)
+    ensures { λ _. ⌜ now (track .exit) ≡ wiped (now (track .entry)) from ⌝ }
+{
+    let mut i = from;
+    while i < track.len() {
+        track[i] = 0;
+        i += 1;
+    }
+}
