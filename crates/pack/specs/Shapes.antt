@@ -11,7 +11,7 @@ use Rattle.pack.specs.declared.Cylinder.{Cylinder}
 use Rattle.pack.specs.declared.Head.{Head}
 use Rattle.pack.specs.declared.Shape.{Shape}
 use Rattle.pack.specs.declared.Sought.{Sought}
-use Rattle.pack.specs.declared.Sought.the-variants.{Stands, Refused}
+use Rattle.pack.specs.declared.Sought.the-variants.{Stands, Fails}
 
 abbrev pub mostCylinders : ℕ
 mostCylinders = 203
@@ -34,7 +34,7 @@ cylinderOn g cc = ltb cc (g .cylinders)
 abbrev pub headOn : Shape → ℕ → Bool
 headOn g hh = ltb hh (g .heads)
 
--- ---- a seek's address, BB CC HH
+-- ---- a seek's address, BB CC HH: where the head then stands, or the Unit Check row
 
 -- accepted: the cylinder and head to stand at
 abbrev pub stands : ℕ → ℕ → Sought
@@ -43,12 +43,8 @@ stands cc hh = Stands (record { 0 = cc }) (record { 0 = hh })
 -- Seek and Seek Cylinder: BB = 0, CC and HH on the pack
 unfoldable pub seekTo : Shape → ℕ → ℕ → ℕ → Sought
 seekTo g bb cc hh =
-    pick (both (eqb bb 0) (both (cylinderOn g cc) (headOn g hh))) (stands cc hh) Refused
+    pick (both (eqb bb 0) (both (cylinderOn g cc) (headOn g hh))) (stands cc hh) (Fails BadSeek)
 
 -- Seek Head tests and uses HH only
 unfoldable pub seekHead : Shape → Cylinder → ℕ → Sought
-seekHead g c hh = pick (headOn g hh) (Stands c (record { 0 = hh })) Refused
-
--- the Unit Check row of an address that is refused
-unfoldable pub refusedRow : Row
-refusedRow = BadSeek
+seekHead g c hh = pick (headOn g hh) (Stands c (record { 0 = hh })) (Fails BadSeek)

@@ -1,4 +1,5 @@
 // A pack of tracks, lent as one slice of cells: its shape, a seek's address, and the selected track lent on.
+use rows::Row;
 ghost use mathlib.Core.Path.{_≡_};
 ghost use Prim.Native.Nat.{_+_, _*_, _≤_};
 ghost use Rattle.cells.specs.Cells.{trackCells};
@@ -15,10 +16,10 @@ pub struct Shape {
     pub heads: u32,
 }
 
-// What a seek's address comes to: where the head then stands, or refused.
+// What a seek's address comes to: where the head then stands, or the Unit Check row.
 pub enum Sought {
     Stands(Cylinder, Head),
-    Refused,
+    Fails(Row),
 }
 
 // Whether a number is from 1 to the most.
@@ -57,13 +58,13 @@ pub fn seek_to(g: Shape, bb: u16, cc: u16, hh: u16) -> Sought
     ensures { λ r. ⌜ r ≡ seekTo g bb cc hh ⌝ }
 {
     if bb != 0 {
-        return Sought::Refused;
+        return Sought::Fails(Row::BadSeek);
     }
     if g.cylinders <= cc as u32 {
-        return Sought::Refused;
+        return Sought::Fails(Row::BadSeek);
     }
     if g.heads <= hh as u32 {
-        return Sought::Refused;
+        return Sought::Fails(Row::BadSeek);
     }
     Sought::Stands(Cylinder(cc), Head(hh))
 }
@@ -73,7 +74,7 @@ pub fn seek_head(g: Shape, c: Cylinder, hh: u16) -> Sought
     ensures { λ r. ⌜ r ≡ seekHead g c hh ⌝ }
 {
     if g.heads <= hh as u32 {
-        return Sought::Refused;
+        return Sought::Fails(Row::BadSeek);
     }
     Sought::Stands(c, Head(hh))
 }

@@ -4,6 +4,8 @@ use mathlib.Core.List.{List, [], _∷_}
 use lib.ListN.{length}
 use Rattle.cells.specs.Bytes.{overlay}
 use Rattle.words.specs.declared.Status.{Status}
+use Rattle.words.specs.declared.Cause.{Cause}
+use Rattle.words.specs.declared.Cause.the-variants.{Place, TicAfterTic, Flags, NoCount, Code, Area}
 use Rattle.words.specs.Words.{addresses, along, wordBytes}
 
 -- stored at 64: key and zeros, address, unit status, channel status, count left
@@ -41,6 +43,15 @@ statusFor key at unit channel left = record {
   left = left;
 }
 
--- a program check's: status 00 20, HOUSE count 0, whatever the cause
-abbrev pub programCheck : ℕ → ℕ → Status
-programCheck key at = statusFor key at 0x00 0x20 0
+-- the channel status of a program check, by its cause
+unfoldable pub channelFor : Cause → ℕ
+channelFor Place = 0x20
+channelFor TicAfterTic = 0x20
+channelFor Flags = 0x20
+channelFor NoCount = 0x20
+channelFor Code = 0x20
+channelFor Area = 0x20
+
+-- a program check's status word: unit status 00, HOUSE count 0
+unfoldable pub programCheck : ℕ → ℕ → Cause → Status
+programCheck key at cause = statusFor key at 0x00 (channelFor cause) 0

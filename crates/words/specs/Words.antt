@@ -85,12 +85,3 @@ testedWord s afterTic w =
 -- the tests of the word at an address of storage
 unfoldable pub tested : List ℕ → ℕ → Bool → Tested
 tested s at afterTic = pick (placed s at) (testedWord s afterTic (wordAt s at)) (Bad Place)
-
--- a cause's place in document 01's order
-unfoldable pub causeNo : Cause → ℕ
-causeNo Place = 1
-causeNo TicAfterTic = 2
-causeNo Flags = 3
-causeNo NoCount = 4
-causeNo Code = 5
-causeNo Area = 6

@@ -5,7 +5,7 @@ ghost use Prim.Native.Nat.{ℕ, _+_};
 ghost use lib.ListN.{length};
 ghost use Rattle.cells.specs.Bytes.{be16, be24};
 ghost use Rattle.words.specs.Words.{along, begunBy, wordAt, testedCommand, testedWord, tested};
-ghost use Rattle.words.specs.Status.{Storable, stored, statusFor, programCheck};
+ghost use Rattle.words.specs.Status.{Storable, stored, statusFor, channelFor, programCheck};
 
 // A command word.
 pub struct Word {
@@ -164,11 +164,25 @@ pub fn status_for(key: u8, at: u32, unit: u8, channel: u8, left: u16) -> Status
     }
 }
 
-// The status word of a program check in the word at an address.
-pub fn program_check(key: u8, at: u32) -> Status
-    ensures { λ r. ⌜ r ≡ programCheck key at ⌝ }
+// The channel status of a program check.
+fn channel_for(cause: Cause) -> u8
+    ensures { λ r. ⌜ r ≡ channelFor cause ⌝ }
 {
-    status_for(key, at, 0x00, 0x20, 0)
+    match cause {
+        Cause::Place => 0x20,
+        Cause::TicAfterTic => 0x20,
+        Cause::Flags => 0x20,
+        Cause::NoCount => 0x20,
+        Cause::Code => 0x20,
+        Cause::Area => 0x20,
+    }
+}
+
+// The status word of a program check in the word at an address.
+pub fn program_check(key: u8, at: u32, cause: Cause) -> Status
+    ensures { λ r. ⌜ r ≡ programCheck key at cause ⌝ }
+{
+    status_for(key, at, 0x00, channel_for(cause), 0)
 }
 
 // The status word stored, at 64.

@@ -1,0 +1,3 @@
+-- What is claimed, proved.
+pub mod Figures
+pub mod Pinned

@@ -1,0 +1,3 @@
+-- What is claimed: the starred figures as one table, and both sides of each limit.
+pub mod Figures
+pub mod Limits

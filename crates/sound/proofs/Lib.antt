@@ -1,0 +1,4 @@
+-- Laws of soundly written tracks.
+pub mod Test
+pub mod Tracks
+pub mod Full

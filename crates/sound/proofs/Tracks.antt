@@ -1,0 +1,41 @@
+-- Some tracks are soundly written and near misses are not, by the test. Assumes nothing.
+use Prim.Native.Nat.{ℕ}
+use mathlib.Core.Path.{_≡_, refl, sym, ap, _∙_}
+use mathlib.Core.Bool.{Bool, true, false, not, true≢false}
+use mathlib.Core.List.{List, [], _∷_, List·Memᴰ, List·Memᴰ·head, List·Memᴰ·tail, List·Memᴰ·not-nil}
+use borrow.Author.Tests.{not-true}
+use Rattle.cells.specs.Choice.{pick, both}
+use Rattle.cells.specs.Bytes.{part}
+use Rattle.cells.specs.Cells.{bytesOf, cellsOf, allBytes}
+use Rattle.house_check.specs.Check.{step, feed, byteBits, bits, check}
+use Rattle.house_check.specs.Area.{agrees, goodCells, checked, laid}
+use Rattle.areas.specs.Areas.{areaCells, readable, areaBytes, countsOf, countsAt, keyCells, keyArea, dataArea, recordCells, endBy}
+use Rattle.areas.specs.Flags.{flagOfZero, flagAfter}
+use Rattle.sound.specs.Sound.{Sound}
+use Rattle.sound.specs.Test.{allGaps, oneZero, recordOk, recordsOk, soundly, each}
+use Rattle.sound.specs.Tracks.{filled, home, count, zeroth, alone, keyed, recorded, right, nearMisses}
+use Rattle.sound.proofs.Test.{first-of, second-of, soundly-sound, sound-soundly}
+
+good : each true (alone ∷ keyed ∷ right ∷ []) ≡ true
+unfolding each alone keyed recorded right filled home count zeroth allGaps oneZero recordOk recordsOk soundly flagOfZero flagAfter areaCells readable areaBytes countsOf countsAt keyCells keyArea dataArea recordCells endBy agrees goodCells checked laid step feed byteBits bits check bytesOf cellsOf allBytes part
+good = refl
+
+bad : each false nearMisses ≡ true
+unfolding each nearMisses recorded right filled home count zeroth allGaps oneZero recordOk recordsOk soundly flagOfZero flagAfter areaCells readable areaBytes countsOf countsAt keyCells keyArea dataArea recordCells endBy agrees goodCells checked laid step feed byteBits bits check bytesOf cellsOf allBytes part
+bad = refl
+
+-- of tracks that test alike, each one
+each-test : (b : Bool) (l : List (List ℕ)) → each b l ≡ true → (t : List ℕ) → List·Memᴰ t l → pick b (soundly t) (not (soundly t)) ≡ true
+unfolding each
+each-test b [] e t m = absurd (List·Memᴰ·not-nil m)
+each-test b (x ∷ l) e t (List·Memᴰ·head q) =
+    ap (λ (y : List ℕ). pick b (soundly y) (not (soundly y))) q ∙ first-of (pick b (soundly x) (not (soundly x))) (each b l) e
+each-test b (x ∷ l) e t (List·Memᴰ·tail m) = each-test b l (second-of (pick b (soundly x) (not (soundly x))) (each b l) e) t m
+
+-- home address and R0 alone; keys and a record of DL 0; the track that the near misses are close to
+pub sound-tracks : (t : List ℕ) → List·Memᴰ t (alone ∷ keyed ∷ right ∷ []) → Sound t
+sound-tracks t m = soundly-sound t (each-test true (alone ∷ keyed ∷ right ∷ []) good t m)
+
+-- none of the near misses is soundly written
+pub near-misses : (t : List ℕ) → List·Memᴰ t nearMisses → Sound t → ⊥
+near-misses t m S = true≢false (sym (sound-soundly t S) ∙ not-true (soundly t) (each-test false nearMisses bad t m))

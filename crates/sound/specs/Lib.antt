@@ -1,0 +1,4 @@
+-- The model of a soundly written track.
+pub mod Sound
+pub mod Test
+pub mod Tracks
