@@ -74,3 +74,7 @@ module _ (f : ℕ) (hf : f < 2 ^ 32) where
 
     pub room-back : toZ w64 (ofZ w64 (toZ w64 (ofZ w64 (pos 4096 -ℤ toZ w64 f)) -ℤ toZ w64 n)) ≡ roomLeft f n
     room-back = toZ-ofZ w64 _ both-fit ∙ both-are
+
+-- where a record would end past the track there is no room, however far past
+pub no-room : (first needs : ℕ) → trackCells < first + needs → fits first needs ≡ false
+no-room first needs h = fits-is first needs ∙ lt-leb (first + needs) trackCells h

@@ -1,3 +1,4 @@
+-- `areas::flag_after` meets its contract: the definition's own arithmetic. Assumes nothing.
 use Rattle.areas.specs.Flags.{flagAfter}
 use borrow.Author.Needs.{needs}
 use Rattle.areas.proofs.flag_after.Statement.{statement}

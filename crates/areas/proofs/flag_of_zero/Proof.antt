@@ -1,3 +1,4 @@
+-- `areas::flag_of_zero` meets its contract: the definition's own arithmetic. Assumes nothing.
 use Rattle.areas.specs.Flags.{flagOfZero}
 use borrow.Author.Needs.{needs}
 use Rattle.areas.proofs.flag_of_zero.Statement.{statement}
