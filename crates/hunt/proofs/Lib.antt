@@ -1,2 +1,3 @@
 -- Laws of the hunt.
 pub mod Laws
+pub mod Inside

@@ -1,0 +1,78 @@
+-- One command word, and an allowance of them. Assumes nothing.
+use Prim.Native.Nat.{ℕ, zero, suc, _+_, _*_, _<_, _≤_}
+use mathlib.Core.Path.{_≡_}
+use mathlib.Core.Bool.{Bool, true, false}
+use mathlib.Core.List.{List}
+use lib.ListN.{length}
+use Rattle.cells.specs.Choice.{pick}
+use Rattle.words.specs.declared.Word.{Word}
+use Rattle.words.specs.declared.Cause.{Cause}
+use Rattle.words.specs.declared.Tested.{Tested}
+use Rattle.words.specs.declared.Tested.the-variants.{Obey, Jump, Bad}
+use Rattle.words.specs.Words.{tested}
+use Rattle.words.specs.Status.{stored, programCheck}
+use Rattle.pack.specs.declared.Shape.{Shape}
+use Rattle.pack.specs.Tracks.{Whole, On, startOf, trackAt, withTrack}
+use Rattle.held.specs.declared.Stands.{Stands}
+use Rattle.held.specs.declared.Channel.{Channel}
+use Rattle.held.specs.declared.Held.{Held}
+use Rattle.held.specs.Held.{rested}
+use Rattle.outcome.specs.declared.Done.{Done}
+use Rattle.chain.specs.Act.{Acted, acts}
+use Rattle.chain.specs.Settle.{heldAfter, storageAfter}
+
+-- all that a call may change
+pub record World : Type 0 where
+  pub held : Held
+  pub storage : List ℕ
+  pub cells : List ℕ
+
+abbrev pub world : Held → List ℕ → List ℕ → World
+world h s c = record { held = h; storage = s; cells = c }
+
+-- the first cell of the track under the head
+unfoldable pub under : Shape → Held → ℕ
+under g h = startOf g (h .stands .cylinder) (h .stands .head)
+
+-- a program check ends the chain; sense and the place stand
+unfoldable pub stops : World → Cause → World
+stops w cause =
+    world (rested (w .held .stands)) (stored (w .storage) (programCheck (w .held .channel .key) (w .held .channel .next) cause)) (w .cells)
+
+-- a TIC: the next word is at its address
+unfoldable pub jumped : Held → ℕ → Held
+jumped h a = record {
+  stands = h .stands;
+  orders = h .orders;
+  channel = record { going = h .channel .going; key = h .channel .key; next = a; «after_tic» = true };
+}
+
+-- a command: it acts, and the channel ends it
+unfoldable pub settled : Shape → World → Word → Acted → World
+settled g w d a =
+    world (heldAfter (w .held .channel) d (a .done)) (storageAfter (w .held .channel) d (a .done) (a .storage))
+    (withTrack (w .cells) (under g (w .held)) (a .track))
+
+unfoldable pub obeyed : Shape → World → Word → World
+obeyed g w d =
+    settled g w d (acts g (w .held .stands) (w .held .orders) d (w .storage) (trackAt (w .cells) (under g (w .held))))
+
+unfoldable pub takes : Shape → World → Tested → World
+takes g w (Obey d) = obeyed g w d
+takes g w (Jump a) = world (jumped (w .held) a) (w .storage) (w .cells)
+takes g w (Bad cause) = stops w cause
+
+unfoldable pub step : Shape → World → World
+step g w = takes g w (tested (w .storage) (w .held .channel .next) (w .held .channel .«after_tic»))
+
+-- an allowance of n words
+unfoldable pub run : Shape → ℕ → World → World
+run g zero w = w
+run g (suc n) w = pick (w .held .channel .going) (run g n (step g w)) w
+
+-- what refusals 2, 3 and 4 make sure of, as far as a step needs it
+pub record Legal (g : Shape) (w : World) : Type 0 where
+  pub whole : Whole g (w .cells)
+  pub on : On g (w .held .stands .cylinder) (w .held .stands .head)
+  pub room : 80 ≤ length (w .storage)
+  pub key : w .held .channel .key < 16

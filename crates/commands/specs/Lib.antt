@@ -1,0 +1,2 @@
+-- The model of the command codes.
+pub mod Commands

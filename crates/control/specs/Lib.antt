@@ -1,0 +1,2 @@
+-- The model of the control commands.
+pub mod Control

@@ -1,0 +1,134 @@
+-- The held state as the 64 bytes that a host keeps. Numbers of several bytes are big-endian. Assumes nothing.
+use Prim.Native.Nat.{ℕ, _+_, _*_, _/_, _%_, _<_}
+use mathlib.Core.Path.{_≡_}
+use mathlib.Core.Bool.{Bool, true, false}
+use mathlib.Core.List.{List, [], _∷_, _++_}
+use lib.ListN.{length, getD, drop, replicate}
+use lib.Dec.{ltb, leb, eqb}
+use Rattle.cells.specs.Choice.{pick, both}
+use Rattle.cells.specs.Bytes.{be16, be24}
+use Rattle.rows.specs.Rows.{sense}
+use Rattle.hunt.specs.declared.Spot.{Spot}
+use Rattle.hunt.specs.declared.Spot.the-variants.{Zero, Marker}
+use Rattle.held.specs.declared.Selection.{Selection}
+use Rattle.held.specs.declared.Selection.the-variants.{Nothing, On}
+use Rattle.held.specs.declared.Stands.{Stands}
+use Rattle.held.specs.declared.Orders.{Orders}
+use Rattle.held.specs.declared.Channel.{Channel}
+use Rattle.held.specs.declared.Held.{Held}
+use Rattle.held.specs.declared.Kept.{Kept}
+use Rattle.held.specs.declared.Kept.the-variants.{Holds, Wrong}
+
+abbrev pub heldBytes : ℕ
+heldBytes = 64
+
+-- the layout's number
+abbrev pub layout : ℕ
+layout = 1
+
+unfoldable pub bit : Bool → ℕ
+bit true = 1
+bit false = 0
+
+-- a selection's number, and its marker's cell, zero if none
+unfoldable pub selectionNo : Selection → ℕ
+selectionNo Nothing = 0
+selectionNo (On Zero) = 1
+selectionNo (On (Marker p)) = 2
+
+unfoldable pub selectionCell : Selection → ℕ
+selectionCell Nothing = 0
+selectionCell (On Zero) = 0
+selectionCell (On (Marker p)) = p
+
+abbrev pub two : ℕ → List ℕ
+two n = n / 256 ∷ n % 256 ∷ []
+
+abbrev pub four : ℕ → List ℕ
+four n = n / 16777216 ∷ n / 65536 % 256 ∷ n / 256 % 256 ∷ n % 256 ∷ []
+
+-- bytes 0 to 23, by their places; 24 to 63 are zero
+unfoldable pub encoded : Held → List ℕ
+encoded h =
+    bit (h .channel .going)                                              -- 0
+    ∷ h .channel .key                                                    -- 1
+    ∷ h .orders .mask                                                    -- 2
+    ∷ bit (h .orders .«mask_set»)                                        -- 3
+    ∷ h .stands .sense .byte0                                            -- 4
+    ∷ h .stands .sense .byte1                                            -- 5
+    ∷ bit (h .channel .«after_tic»)                                      -- 6
+    ∷ h .orders .before                                                  -- 7
+    ∷ bit (h .orders .whole)                                             -- 8
+    ∷ h .orders .tally                                                   -- 9
+    ∷ selectionNo (h .orders .selection)                                 -- 10
+    ∷ layout                                                             -- 11
+    ∷ (two (selectionCell (h .orders .selection))                        -- 12, 13
+    ++ two (h .stands .cylinder .0)                                      -- 14, 15
+    ++ two (h .stands .head .0)                                          -- 16, 17
+    ++ two (h .stands .place)                                            -- 18, 19
+    ++ four (h .channel .next)                                           -- 20 to 23
+    ++ replicate 40 0)                                                   -- 24 to 63
+
+-- ---- bytes that encode a held state
+
+abbrev pub isBit : ℕ → Bool
+isBit b = ltb b 2
+
+unfoldable pub allZero : List ℕ → Bool
+allZero [] = true
+allZero (b ∷ v) = both (eqb b 0) (allZero v)
+
+abbrev pub isSet : ℕ → Bool
+isSet b = eqb b 1
+
+-- the marker's cell is zero where no marker is selected
+abbrev pub cellFits : List ℕ → Bool
+cellFits v = pick (eqb (getD v 10 0) 2) true (eqb (be16 v 12) 0)
+
+-- length, layout, flags, selection, zeros
+unfoldable pub encodes : List ℕ → Bool
+encodes v =
+    both (eqb (length v) heldBytes)
+    (both (eqb (getD v 11 0) layout)
+    (both (isBit (getD v 0 0))
+    (both (isBit (getD v 3 0))
+    (both (isBit (getD v 6 0))
+    (both (isBit (getD v 8 0))
+    (both (ltb (getD v 10 0) 3)
+    (both (cellFits v)
+    (allZero (drop 24 v)))))))))
+
+unfoldable pub selectionIn : List ℕ → Selection
+selectionIn v =
+    pick (eqb (getD v 10 0) 0) Nothing (pick (eqb (getD v 10 0) 1) (On Zero) (On (Marker (be16 v 12))))
+
+abbrev pub be32 : List ℕ → ℕ → ℕ
+be32 v at = getD v at 0 * 16777216 + be24 v (at + 1)
+
+-- what 64 bytes say, if they encode a held state
+unfoldable pub decoded : List ℕ → Held
+decoded v = record {
+  stands = record {
+    cylinder = record { 0 = be16 v 14 };
+    head = record { 0 = be16 v 16 };
+    place = be16 v 18;
+    sense = sense (getD v 4 0) (getD v 5 0);
+  };
+  orders = record {
+    mask = getD v 2 0;
+    «mask_set» = isSet (getD v 3 0);
+    before = getD v 7 0;
+    whole = isSet (getD v 8 0);
+    tally = getD v 9 0;
+    selection = selectionIn v;
+  };
+  channel = record {
+    going = isSet (getD v 0 0);
+    key = getD v 1 0;
+    next = be32 v 20;
+    «after_tic» = isSet (getD v 6 0);
+  };
+}
+
+unfoldable pub kept : List ℕ → Kept
+kept v = pick (encodes v) (Holds (decoded v)) Wrong

@@ -1,0 +1,32 @@
+-- Document 01, "Where the head stands" and "Commands": what the box holds from call to call. Assumes nothing.
+use Prim.Native.Nat.{ℕ}
+use mathlib.Core.Bool.{Bool, true, false}
+use Rattle.rows.specs.declared.Sense.{Sense}
+use Rattle.rows.specs.Rows.{sense}
+use Rattle.hunt.specs.declared.Spot.{Spot}
+use Rattle.pack.specs.declared.Cylinder.{Cylinder}
+use Rattle.pack.specs.declared.Head.{Head}
+use Rattle.held.specs.declared.Selection.{Selection}
+use Rattle.held.specs.declared.Selection.the-variants.{Nothing, On}
+use Rattle.held.specs.declared.Stands.{Stands}
+use Rattle.held.specs.declared.Orders.{Orders}
+use Rattle.held.specs.declared.Channel.{Channel}
+use Rattle.held.specs.declared.Held.{Held}
+
+-- a fresh box stands at cylinder 0, head 0, place 0, with mask 0, sense all zero and no chain going
+unfoldable pub freshStands : Stands
+freshStands = record { cylinder = record { 0 = 0 }; head = record { 0 = 0 }; place = 0; sense = sense 0 0 }
+
+-- each chain starts with mask 0, none set yet, no selection, no command before and index tally 0
+unfoldable pub freshOrders : Orders
+freshOrders = record { mask = 0; «mask_set» = false; before = 0; whole = false; tally = 0; selection = Nothing }
+
+unfoldable pub freshChannel : Channel
+freshChannel = record { going = false; key = 0; next = 0; «after_tic» = false }
+
+unfoldable pub fresh : Held
+fresh = record { stands = freshStands; orders = freshOrders; channel = freshChannel }
+
+-- chain end puts all back as in a fresh box, but cylinder, head, place and sense
+unfoldable pub rested : Stands → Held
+rested s = record { stands = s; orders = fresh .orders; channel = fresh .channel }

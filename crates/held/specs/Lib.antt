@@ -1,0 +1,3 @@
+-- The model of the held state.
+pub mod Held
+pub mod Bytes

@@ -1,0 +1,2 @@
+-- The model of what a command leaves.
+pub mod Outcome
