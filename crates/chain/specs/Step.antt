@@ -19,7 +19,7 @@ use Rattle.held.specs.declared.Held.{Held}
 use Rattle.held.specs.Held.{rested}
 use Rattle.outcome.specs.declared.Done.{Done}
 use Rattle.chain.specs.Act.{Acted, acts}
-use Rattle.chain.specs.Settle.{heldAfter, storageAfter}
+use Rattle.settle.specs.Settle.{heldAfter, storageAfter}
 
 -- all that a call may change
 pub record World : Type 0 where

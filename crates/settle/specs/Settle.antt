@@ -44,8 +44,9 @@ unfoldable pub wrongLength : Word → Done → Bool
 wrongLength w d =
     both (d .lengths) (both (not (suppresses w)) (either (ltb (d .moved) (w .count)) (ltb (w .count) (d .wanted))))
 
-abbrev pub incorrectLength : ℕ
-incorrectLength = 0x40
+-- channel status: incorrect length or nothing
+unfoldable pub lengthStatus : Word → Done → ℕ
+lengthStatus w d = pick (wrongLength w d) 0x40 0x00
 
 unfoldable pub goesOn : Word → Done → Bool
 goesOn w d = both (chains w) (both (not (wrongLength w d)) (endsWell (d .ending)))
@@ -64,7 +65,7 @@ heldAfter c w d =
 -- count left is count less bytes moved
 unfoldable pub statusAfter : Channel → Word → Done → Status
 statusAfter c w d =
-    statusFor (c .key) (c .next) (unitStatus (d .ending)) (pick (wrongLength w d) incorrectLength 0) (w .count - d .moved)
+    statusFor (c .key) (c .next) (unitStatus (d .ending)) (lengthStatus w d) (w .count - d .moved)
 
 -- the status word is stored last, at the chain's end
 unfoldable pub storageAfter : Channel → Word → Done → List ℕ → List ℕ

@@ -1,0 +1,2 @@
+-- The model of how the channel ends a command.
+pub mod Settle
