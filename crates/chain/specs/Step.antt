@@ -1,23 +1,18 @@
 -- One command word, and an allowance of them. Assumes nothing.
-use Prim.Native.Nat.{ℕ, zero, suc, _+_, _*_, _<_, _≤_}
-use mathlib.Core.Path.{_≡_}
-use mathlib.Core.Bool.{Bool, true, false}
+use Prim.Native.Nat.{ℕ, zero, suc}
+use mathlib.Core.Bool.{Bool, true}
 use mathlib.Core.List.{List}
-use lib.ListN.{length}
 use Rattle.cells.specs.Choice.{pick}
 use Rattle.words.specs.declared.Word.{Word}
 use Rattle.words.specs.declared.Cause.{Cause}
 use Rattle.words.specs.declared.Tested.{Tested}
 use Rattle.words.specs.declared.Tested.the-variants.{Obey, Jump, Bad}
-use Rattle.words.specs.Words.{tested}
+use Rattle.words.specs.Words.{along, tested}
 use Rattle.words.specs.Status.{stored, programCheck}
 use Rattle.pack.specs.declared.Shape.{Shape}
-use Rattle.pack.specs.Tracks.{Whole, On, startOf, trackAt, withTrack}
-use Rattle.held.specs.declared.Stands.{Stands}
-use Rattle.held.specs.declared.Channel.{Channel}
+use Rattle.pack.specs.Tracks.{startOf, trackAt, withTrack}
 use Rattle.held.specs.declared.Held.{Held}
 use Rattle.held.specs.Held.{rested}
-use Rattle.outcome.specs.declared.Done.{Done}
 use Rattle.chain.specs.Act.{Acted, acts}
 use Rattle.settle.specs.Settle.{heldAfter, storageAfter}
 
@@ -39,12 +34,12 @@ unfoldable pub stops : World → Cause → World
 stops w cause =
     world (rested (w .held .stands)) (stored (w .storage) (programCheck (w .held .channel .key) (w .held .channel .next) cause)) (w .cells)
 
--- a TIC: the next word is at its address
+-- a TIC: the next word is at its address, modulo 2 to the 24 like every next word's
 unfoldable pub jumped : Held → ℕ → Held
 jumped h a = record {
   stands = h .stands;
   orders = h .orders;
-  channel = record { going = h .channel .going; key = h .channel .key; next = a; «after_tic» = true };
+  channel = record { going = h .channel .going; key = h .channel .key; next = along a 0; «after_tic» = true };
 }
 
 -- a command: it acts, and the channel ends it
@@ -69,10 +64,3 @@ step g w = takes g w (tested (w .storage) (w .held .channel .next) (w .held .cha
 unfoldable pub run : Shape → ℕ → World → World
 run g zero w = w
 run g (suc n) w = pick (w .held .channel .going) (run g n (step g w)) w
-
--- what refusals 2, 3 and 4 make sure of, as far as a step needs it
-pub record Legal (g : Shape) (w : World) : Type 0 where
-  pub whole : Whole g (w .cells)
-  pub on : On g (w .held .stands .cylinder) (w .held .stands .head)
-  pub room : 80 ≤ length (w .storage)
-  pub key : w .held .channel .key < 16

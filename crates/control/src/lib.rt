@@ -186,7 +186,15 @@ fn space(s: Stands, o: Orders, w: Word, track: &[u16]) -> Done
 }
 
 // What a control command leaves with the unit.
-pub fn control(g: Shape, c: Control, s: Stands, o: Orders, w: Word, storage: &[u8], track: &[u16]) -> Done
+pub fn control(
+    g: Shape,
+    c: Control,
+    s: Stands,
+    o: Orders,
+    w: Word,
+    storage: &[u8],
+    track: &[u16],
+) -> Done
     requires { ⌜ Reaches (now storage) w × Whole (now track) ⌝ }
     ensures { λ r. ⌜ r ≡ controls g c s o w (now (storage .entry)) (marks (now (track .entry))) ⌝ }
 {

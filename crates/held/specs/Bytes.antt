@@ -1,20 +1,15 @@
 -- The held state as the 64 bytes that a host keeps. Numbers of several bytes are big-endian. Assumes nothing.
-use Prim.Native.Nat.{ℕ, _+_, _*_, _/_, _%_, _<_}
-use mathlib.Core.Path.{_≡_}
+use Prim.Native.Nat.{ℕ, _+_, _*_, _/_, _%_, _^_, _<_}
 use mathlib.Core.Bool.{Bool, true, false}
 use mathlib.Core.List.{List, [], _∷_, _++_}
 use lib.ListN.{length, getD, drop, replicate}
-use lib.Dec.{ltb, leb, eqb}
+use lib.Dec.{ltb, eqb}
 use Rattle.cells.specs.Choice.{pick, both}
 use Rattle.cells.specs.Bytes.{be16, be24}
 use Rattle.rows.specs.Rows.{sense}
-use Rattle.hunt.specs.declared.Spot.{Spot}
 use Rattle.hunt.specs.declared.Spot.the-variants.{Zero, Marker}
 use Rattle.held.specs.declared.Selection.{Selection}
 use Rattle.held.specs.declared.Selection.the-variants.{Nothing, On}
-use Rattle.held.specs.declared.Stands.{Stands}
-use Rattle.held.specs.declared.Orders.{Orders}
-use Rattle.held.specs.declared.Channel.{Channel}
 use Rattle.held.specs.declared.Held.{Held}
 use Rattle.held.specs.declared.Kept.{Kept}
 use Rattle.held.specs.declared.Kept.the-variants.{Holds, Wrong}
@@ -26,17 +21,17 @@ heldBytes = 64
 abbrev pub layout : ℕ
 layout = 1
 
-unfoldable pub bit : Bool → ℕ
+abbrev pub bit : Bool → ℕ
 bit true = 1
 bit false = 0
 
 -- a selection's number, and its marker's cell, zero if none
-unfoldable pub selectionNo : Selection → ℕ
+abbrev pub selectionNo : Selection → ℕ
 selectionNo Nothing = 0
 selectionNo (On Zero) = 1
 selectionNo (On (Marker p)) = 2
 
-unfoldable pub selectionCell : Selection → ℕ
+abbrev pub selectionCell : Selection → ℕ
 selectionCell Nothing = 0
 selectionCell (On Zero) = 0
 selectionCell (On (Marker p)) = p
@@ -50,24 +45,38 @@ four n = n / 16777216 ∷ n / 65536 % 256 ∷ n / 256 % 256 ∷ n % 256 ∷ []
 -- bytes 0 to 23, by their places; 24 to 63 are zero
 unfoldable pub encoded : Held → List ℕ
 encoded h =
-    bit (h .channel .going)                                              -- 0
-    ∷ h .channel .key                                                    -- 1
-    ∷ h .orders .mask                                                    -- 2
-    ∷ bit (h .orders .«mask_set»)                                        -- 3
-    ∷ h .stands .sense .byte0                                            -- 4
-    ∷ h .stands .sense .byte1                                            -- 5
-    ∷ bit (h .channel .«after_tic»)                                      -- 6
-    ∷ h .orders .before                                                  -- 7
-    ∷ bit (h .orders .whole)                                             -- 8
-    ∷ h .orders .tally                                                   -- 9
-    ∷ selectionNo (h .orders .selection)                                 -- 10
-    ∷ layout                                                             -- 11
-    ∷ (two (selectionCell (h .orders .selection))                        -- 12, 13
-    ++ two (h .stands .cylinder .0)                                      -- 14, 15
-    ++ two (h .stands .head .0)                                          -- 16, 17
-    ++ two (h .stands .place)                                            -- 18, 19
-    ++ four (h .channel .next)                                           -- 20 to 23
-    ++ replicate 40 0)                                                   -- 24 to 63
+    bit (h .channel .going)  -- 0
+    ∷ h .channel .key  -- 1
+    ∷ h .orders .mask  -- 2
+    ∷ bit (h .orders .«mask_set»)  -- 3
+    ∷ h .stands .sense .byte0  -- 4
+    ∷ h .stands .sense .byte1  -- 5
+    ∷ bit (h .channel .«after_tic»)  -- 6
+    ∷ h .orders .before  -- 7
+    ∷ bit (h .orders .whole)  -- 8
+    ∷ h .orders .tally  -- 9
+    ∷ selectionNo (h .orders .selection)  -- 10
+    ∷ layout  -- 11
+    ∷ (two (selectionCell (h .orders .selection))  -- 12, 13
+    ++ two (h .stands .cylinder .0)  -- 14, 15
+    ++ two (h .stands .head .0)  -- 16, 17
+    ++ two (h .stands .place)  -- 18, 19
+    ++ four (h .channel .next)  -- 20 to 23
+    ++ replicate 40 0)  -- 24 to 63
+
+-- a held state whose numbers are in the ranges of their types
+pub record InRange (h : Held) : Type 0 where
+  pub key : h .channel .key < 256
+  pub next : h .channel .next < 2 ^ 32
+  pub mask : h .orders .mask < 256
+  pub before : h .orders .before < 256
+  pub tally : h .orders .tally < 256
+  pub cell : selectionCell (h .orders .selection) < 65536
+  pub byte0 : h .stands .sense .byte0 < 256
+  pub byte1 : h .stands .sense .byte1 < 256
+  pub cylinder : h .stands .cylinder .0 < 65536
+  pub head : h .stands .head .0 < 65536
+  pub place : h .stands .place < 65536
 
 -- ---- bytes that encode a held state
 
@@ -84,6 +93,13 @@ isSet b = eqb b 1
 -- the marker's cell is zero where no marker is selected
 abbrev pub cellFits : List ℕ → Bool
 cellFits v = pick (eqb (getD v 10 0) 2) true (eqb (be16 v 12) 0)
+
+-- the four flags; the selection, with its cell: runs of the tests below
+unfoldable pub flagsFit : List ℕ → Bool
+flagsFit v = both (isBit (getD v 0 0)) (both (isBit (getD v 3 0)) (both (isBit (getD v 6 0)) (isBit (getD v 8 0))))
+
+unfoldable pub selectionFits : List ℕ → Bool
+selectionFits v = both (ltb (getD v 10 0) 3) (cellFits v)
 
 -- length, layout, flags, selection, zeros
 unfoldable pub encodes : List ℕ → Bool

@@ -1,13 +1,7 @@
 -- Document 01, "Where the head stands" and "Commands": what the box holds from call to call. Assumes nothing.
-use Prim.Native.Nat.{ℕ}
-use mathlib.Core.Bool.{Bool, true, false}
-use Rattle.rows.specs.declared.Sense.{Sense}
+use mathlib.Core.Bool.{false}
 use Rattle.rows.specs.Rows.{sense}
-use Rattle.hunt.specs.declared.Spot.{Spot}
-use Rattle.pack.specs.declared.Cylinder.{Cylinder}
-use Rattle.pack.specs.declared.Head.{Head}
-use Rattle.held.specs.declared.Selection.{Selection}
-use Rattle.held.specs.declared.Selection.the-variants.{Nothing, On}
+use Rattle.held.specs.declared.Selection.the-variants.{Nothing}
 use Rattle.held.specs.declared.Stands.{Stands}
 use Rattle.held.specs.declared.Orders.{Orders}
 use Rattle.held.specs.declared.Channel.{Channel}

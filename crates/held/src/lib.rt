@@ -4,8 +4,13 @@ use pack::Cylinder;
 use pack::Head;
 use rows::Sense;
 ghost use mathlib.Core.Path.{_≡_};
+ghost use Prim.Native.Nat.{_+_, _/_, _%_, _<_, _≤_};
+ghost use lib.Dec.{eqb};
+ghost use lib.ListN.{length, getD, drop};
+ghost use Rattle.cells.specs.Choice.{pick};
+ghost use Rattle.cells.specs.Bytes.{be16, overlay, padded, part};
 ghost use Rattle.held.specs.Held.{fresh, rested};
-ghost use Rattle.held.specs.Bytes.{heldBytes, encoded, encodes, decoded, kept, selectionIn, selectionNo, selectionCell, allZero};
+ghost use Rattle.held.specs.Bytes.{heldBytes, bit, selectionNo, selectionCell, encoded, allZero, flagsFit, selectionFits, encodes, isSet, selectionIn, be32, decoded, kept};
 
 // The record selected for the very next command, if one is.
 pub enum Selection {
@@ -95,4 +100,290 @@ impl Held {
             channel,
         }
     }
+}
+
+// Two bytes from an index on, as one number.
+fn pair_at(bytes: &[u8], at: usize) -> u16
+    requires { ⌜ at < heldBytes ⌝ }
+    ensures { λ r. ⌜ r ≡ be16 (now (bytes .entry)) at ⌝ }
+{
+    cells::pair(cells::byte_at(bytes, at), cells::byte_at(bytes, at + 1))
+}
+
+// Four bytes from an index on, as one number.
+fn four_at(bytes: &[u8], at: usize) -> u32
+    requires { ⌜ at < heldBytes ⌝ }
+    ensures { λ r. ⌜ r ≡ be32 (now (bytes .entry)) at ⌝ }
+{
+    let i = at + 1;
+    let top = cells::byte_at(bytes, at);
+    let high = cells::byte_at(bytes, i);
+    let middle = cells::byte_at(bytes, i + 1);
+    let low = cells::byte_at(bytes, i + 2);
+    top as u32 * 16777216 + cells::triple(high, middle, low)
+}
+
+// Whether the byte at an index is a flag that is set.
+fn set_at(bytes: &[u8], at: usize) -> bool
+    ensures { λ r. ⌜ r ≡ isSet (getD (now (bytes .entry)) at 0) ⌝ }
+{
+    cells::byte_at(bytes, at) == 1
+}
+
+// Whether the bytes from an index on are zeros.
+fn zeros_from(bytes: &[u8], first: usize) -> bool
+    ensures { λ r. ⌜ r ≡ allZero (drop first (now (bytes .entry))) ⌝ }
+{
+    let mut i = first;
+    while i < bytes.len() {
+        if bytes[i] != 0 {
+            return false;
+        }
+        i += 1;
+    }
+    true
+}
+
+// Whether the four flags are 0 or 1.
+fn flags_fit(bytes: &[u8]) -> bool
+    ensures { λ r. ⌜ r ≡ flagsFit (now (bytes .entry)) ⌝ }
+{
+    if cells::byte_at(bytes, 0) >= 2 {
+        return false;
+    }
+    if cells::byte_at(bytes, 3) >= 2 {
+        return false;
+    }
+    if cells::byte_at(bytes, 6) >= 2 {
+        return false;
+    }
+    cells::byte_at(bytes, 8) < 2
+}
+
+// Whether the selection is one, with a marker's cell only where a marker is selected.
+fn selection_fits(bytes: &[u8]) -> bool
+    ensures { λ r. ⌜ r ≡ selectionFits (now (bytes .entry)) ⌝ }
+{
+    let selection = cells::byte_at(bytes, 10);
+    if selection >= 3 {
+        return false;
+    }
+    if selection == 2 {
+        return true;
+    }
+    pair_at(bytes, 12) == 0
+}
+
+// Whether bytes encode a held state.
+fn encodes_held(bytes: &[u8]) -> bool
+    ensures { λ r. ⌜ r ≡ encodes (now (bytes .entry)) ⌝ }
+{
+    if bytes.len() != 64 {
+        return false;
+    }
+    if cells::byte_at(bytes, 11) != 1 {
+        return false;
+    }
+    if !flags_fit(bytes) {
+        return false;
+    }
+    if !selection_fits(bytes) {
+        return false;
+    }
+    zeros_from(bytes, 24)
+}
+
+fn selection_in(bytes: &[u8]) -> Selection
+    ensures { λ r. ⌜ r ≡ selectionIn (now (bytes .entry)) ⌝ }
+{
+    let selection = cells::byte_at(bytes, 10);
+    if selection == 0 {
+        return Selection::Nothing;
+    }
+    if selection == 1 {
+        return Selection::On(Spot::Zero);
+    }
+    Selection::On(Spot::Marker(pair_at(bytes, 12)))
+}
+
+fn stands_in(bytes: &[u8]) -> Stands
+    ensures { λ r. ⌜ r ≡ decoded (now (bytes .entry)) .stands ⌝ }
+{
+    Stands {
+        cylinder: Cylinder(pair_at(bytes, 14)),
+        head: Head(pair_at(bytes, 16)),
+        place: pair_at(bytes, 18),
+        sense: Sense {
+            byte0: cells::byte_at(bytes, 4),
+            byte1: cells::byte_at(bytes, 5),
+        },
+    }
+}
+
+fn orders_in(bytes: &[u8]) -> Orders
+    ensures { λ r. ⌜ r ≡ decoded (now (bytes .entry)) .orders ⌝ }
+{
+    Orders {
+        mask: cells::byte_at(bytes, 2),
+        mask_set: set_at(bytes, 3),
+        before: cells::byte_at(bytes, 7),
+        whole: set_at(bytes, 8),
+        tally: cells::byte_at(bytes, 9),
+        selection: selection_in(bytes),
+    }
+}
+
+fn channel_in(bytes: &[u8]) -> Channel
+    ensures { λ r. ⌜ r ≡ decoded (now (bytes .entry)) .channel ⌝ }
+{
+    Channel {
+        going: set_at(bytes, 0),
+        key: cells::byte_at(bytes, 1),
+        next: four_at(bytes, 20),
+        after_tic: set_at(bytes, 6),
+    }
+}
+
+fn held_in(bytes: &[u8]) -> Held
+    ensures { λ r. ⌜ r ≡ decoded (now (bytes .entry)) ⌝ }
+{
+    let stands = stands_in(bytes);
+    let orders = orders_in(bytes);
+    let channel = channel_in(bytes);
+    Held {
+        stands,
+        orders,
+        channel,
+    }
+}
+
+// The held state that bytes encode, or that they encode none.
+pub fn keep(bytes: &[u8]) -> Kept
+    ensures { λ r. ⌜ r ≡ kept (now (bytes .entry)) ⌝ }
+{
+    if encodes_held(bytes) {
+        return Kept::Holds(held_in(bytes));
+    }
+    Kept::Wrong
+}
+
+fn bit_of(b: bool) -> u8
+    ensures { λ r. ⌜ r ≡ bit b ⌝ }
+{
+    if b {
+        return 1;
+    }
+    0
+}
+
+fn high(n: u16) -> u8
+    ensures { λ r. ⌜ r ≡ n / 256 ⌝ }
+{
+    (n / 256) as u8
+}
+
+fn low(n: u16) -> u8
+    ensures { λ r. ⌜ r ≡ n % 256 ⌝ }
+{
+    (n % 256) as u8
+}
+
+fn selection_no(selection: Selection) -> u8
+    ensures { λ r. ⌜ r ≡ selectionNo selection ⌝ }
+{
+    match selection {
+        Selection::Nothing => 0,
+        Selection::On(spot) => match spot {
+            Spot::Zero => 1,
+            Spot::Marker(_) => 2,
+        },
+    }
+}
+
+// The selected marker's cell, 0 where no marker is selected.
+fn selection_cell(selection: Selection) -> u16
+    ensures { λ r. ⌜ r ≡ selectionCell selection ⌝ }
+{
+    match selection {
+        Selection::Nothing => 0,
+        Selection::On(spot) => match spot {
+            Spot::Zero => 0,
+            Spot::Marker(p) => p,
+        },
+    }
+}
+
+// Bytes 0 to 11.
+fn first_bytes(h: Held) -> [u8; 12]
+    ensures { λ r. ⌜ r ≡ part (encoded h) 0 12 ⌝ }
+{
+    let orders = h.orders;
+    let selection = orders.selection;
+    [
+        bit_of(h.channel.going),
+        h.channel.key,
+        h.orders.mask,
+        bit_of(h.orders.mask_set),
+        h.stands.sense.byte0,
+        h.stands.sense.byte1,
+        bit_of(h.channel.after_tic),
+        h.orders.before,
+        bit_of(h.orders.whole),
+        h.orders.tally,
+        selection_no(selection),
+        1,
+    ]
+}
+
+// Bytes 12 to 23.
+fn second_bytes(h: Held) -> [u8; 12]
+    ensures { λ r. ⌜ r ≡ part (encoded h) 12 12 ⌝ }
+{
+    let orders = h.orders;
+    let selection = orders.selection;
+    let cell = selection_cell(selection);
+    let cylinder = h.stands.cylinder.0;
+    let head = h.stands.head.0;
+    let place = h.stands.place;
+    let next = h.channel.next;
+    [
+        high(cell),
+        low(cell),
+        high(cylinder),
+        low(cylinder),
+        high(head),
+        low(head),
+        high(place),
+        low(place),
+        (next / 16777216) as u8,
+        (next / 65536 % 256) as u8,
+        (next / 256 % 256) as u8,
+        (next % 256) as u8,
+    ]
+}
+
+// So many bytes stored from an index on: those that are there, then zeros.
+fn store(held: &mut [u8], first: usize, bytes: &[u8], n: usize)
+    requires { ⌜ first + n ≤ length (now held) ⌝ }
+    ensures { λ _. ⌜ now (held .exit) ≡ overlay (now (held .entry)) first (padded n (now (bytes .entry))) ⌝ }
+{
+    let mut j = 0;
+    while j < n {
+        held[first + j] = cells::byte_at(bytes, j);
+        j += 1;
+    }
+}
+
+// The bytes of a held state stored, if there is room for just these.
+pub fn put(held: &mut [u8], h: Held) -> bool
+    ensures { λ r. ⌜ (r ≡ eqb (length (now (held .entry))) heldBytes) × (now (held .exit) ≡ pick (eqb (length (now (held .entry))) heldBytes) (encoded h) (now (held .entry))) ⌝ }
+{
+    if held.len() != 64 {
+        return false;
+    }
+    let first = first_bytes(h);
+    let second = second_bytes(h);
+    store(held, 0, &first, 12);
+    store(held, 12, &second, 52);
+    true
 }

@@ -1,2 +1,3 @@
 -- Laws of the pack.
 pub mod Laws
+pub mod Seeks

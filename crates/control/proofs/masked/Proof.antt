@@ -1,17 +1,16 @@
+-- The byte is the mask now and a mask is set; the place stands and sense is cleared. Assumes nothing.
+use Rattle.control.specs.Control.{masked}
+use Rattle.outcome.specs.Outcome.{ordered}
 use borrow.Author.Needs.{needs}
 use Rattle.control.proofs.masked.Statement.{statement}
 use Rattle.control.proofs.masked.Tie as tie
-use Rattle.control.proofs.masked.Reads as reads
-use Rattle.control.proofs.masked.Lts as lts
-use Rattle.outcome.proofs.placed.Reads as placed-reads
 
--- src/lib.rt:134:9
 placed-requires : tie.Need-placed-requires
 placed-requires c κs = search needs
 
--- src/lib.rt:131:1
 returns : tie.Need-returns
-returns c = ?
+unfolding masked ordered
+returns c = rw (c .placed .ensures)
 
 pub masked-spec : {M : Type 1} → statement M
 masked-spec = tie.close (tie.spec placed-requires returns)

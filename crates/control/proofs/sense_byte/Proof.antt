@@ -1,20 +1,20 @@
-use borrow.Author.Needs.{needs}
+-- Bytes 0 and 1 are sense's own, and every other is 0. Assumes nothing.
+use native.Mathlib.Omega.{arith}
+use Rattle.control.specs.Control.{senseBytes}
+use Rattle.control.proofs.Laws.{sense-rest}
 use Rattle.control.proofs.sense_byte.Statement.{statement}
 use Rattle.control.proofs.sense_byte.Tie as tie
-use Rattle.control.proofs.sense_byte.Reads as reads
-use Rattle.control.proofs.sense_byte.Lts as lts
 
--- src/lib.rt:210:9
 returns : tie.Need-returns
-returns c = ?
+unfolding senseBytes
+returns c = rw (c .if1 .taken)
 
--- src/lib.rt:213:9
 returns-2 : tie.Need-returns-2
-returns-2 c = ?
+unfolding senseBytes
+returns-2 c = rw (c .if2 .taken)
 
--- src/lib.rt:206:1
 returns-3 : tie.Need-returns-3
-returns-3 c = ?
+returns-3 c = rw (sense-rest _ (c .before .before .args .i) (omega arith))
 
 pub sense-byte-spec : {M : Type 1} → statement M
 sense-byte-spec = tie.close (tie.spec returns returns-2 returns-3)

@@ -1,55 +1,51 @@
+-- The command before is asked as the model asks it; the place that the hunt gives lies on the track, so it fits. Assumes nothing.
+use mathlib.Core.Path.{sym, _∙_}
+use native.Mathlib.Nat.{lt-of-le-of-lt}
+use native.Mathlib.Omega.{arith}
+use borrow.Author.Tests.{not-true, not-false}
+use Rattle.control.specs.Control.{spaces}
+use Rattle.hunt.proofs.Inside.{space-in}
 use borrow.Author.Needs.{needs}
 use Rattle.control.proofs.space.Statement.{statement}
 use Rattle.control.proofs.space.Tie as tie
-use Rattle.control.proofs.space.Reads as reads
-use Rattle.control.proofs.space.Lts as lts
-use Rattle.commands.proofs.command_of.Reads as command-of-reads
-use Rattle.commands.proofs.is_home_work.Reads as is-home-work-reads
-use Rattle.commands.proofs.is_look.Reads as is-look-reads
-use Rattle.control.proofs.after_control.Reads as after-control-reads
-use Rattle.hunt.proofs.space_record.Reads as space-record-reads
-use Rattle.outcome.proofs.checked.Reads as checked-reads
-use Rattle.outcome.proofs.placed.Reads as placed-reads
 
--- src/lib.rt:170:9
 command-of-requires : tie.Need-command-of-requires
 command-of-requires c κs = search needs
 
--- src/lib.rt:171:9
 is-look-requires : tie.Need-is-look-requires
 is-look-requires c κs = search needs
 
--- src/lib.rt:172:9
 checked-requires : tie.Need-checked-requires
 checked-requires c κs = search needs
 
--- src/lib.rt:172:9
 returns : tie.Need-returns
-returns c = ?
+unfolding spaces
+returns c =
+    let b = c .before .before in
+    rw (c .checked .ensures, ← b .before .command-of .ensures, sym (b .is-look .ensures) ∙ not-true _ (c .before .if1 .taken))
 
--- src/lib.rt:174:9
 is-home-work-requires : tie.Need-is-home-work-requires
 is-home-work-requires c κs = search needs
 
--- src/lib.rt:175:17
 space-record-requires : tie.Need-space-record-requires
 space-record-requires c κs = search needs
 
--- src/lib.rt:175:17
 cast-place : tie.Need-cast-place
-cast-place c = ?
+cast-place c =
+    let on = space-in _ _ _ (c .before .before .before .before .before .before .pre) in
+    record { fits = rw (c .space-record .ensures) (lt-of-le-of-lt on (omega arith)) }
 
--- src/lib.rt:176:9
 placed-requires : tie.Need-placed-requires
 placed-requires c κs = search needs
 
--- src/lib.rt:177:9
 after-control-requires : tie.Need-after-control-requires
 after-control-requires c κs = search needs
 
--- src/lib.rt:166:1
 returns-2 : tie.Need-returns-2
-returns-2 c = ?
+unfolding spaces
+returns-2 c =
+    let b = c .before .before .before .before in
+    rw (← b .before .before .command-of .ensures, sym (b .before .is-look .ensures) ∙ not-false _ (b .if1 .left)) cc
 
 pub space-spec : {M : Type 1} → statement M
 space-spec =

@@ -1,6 +1,4 @@
 -- Orders and channel are taken from the fresh box, and where it stands is kept. Assumes nothing.
-use mathlib.Core.Path.{ap}
-use Rattle.held.specs.declared.Held.{Held}
 use Rattle.held.specs.Held.{rested}
 use borrow.Author.Needs.{needs}
 use Rattle.held.proofs.Held.rested.Statement.{statement}

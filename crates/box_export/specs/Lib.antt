@@ -1,0 +1,2 @@
+-- The model of what is exported.
+pub mod Calls

@@ -1,0 +1,92 @@
+-- What the code's calls come to, in the model's words. Assumes nothing.
+use Prim.Native.Nat.{ℕ, _+_, _-_, _≤_}
+use mathlib.Core.Path.{_≡_, refl, sym, ap, _∙_, subst}
+use mathlib.Core.Bool.{Bool}
+use mathlib.Core.List.{List}
+use lib.ListN.{length, take, drop}
+use borrow.Rule.Slice.PartMut.{putMid}
+use Rattle.cells.specs.Bytes.{overlay}
+use Rattle.cells.specs.Cells.{marks}
+use Rattle.rows.specs.declared.Row.the-variants.{UnknownCode}
+use Rattle.words.specs.declared.Word.{Word}
+use Rattle.words.specs.declared.Cause.{Cause}
+use Rattle.words.specs.declared.Status.{Status}
+use Rattle.words.specs.declared.Tested.{Tested}
+use Rattle.words.specs.declared.Tested.the-variants.{Obey}
+use Rattle.words.proofs.Obeys.{TestedIn, tested-in}
+use Rattle.words.specs.Words.{tested}
+use Rattle.words.specs.Status.{stored, programCheck}
+use Rattle.pack.specs.declared.Shape.{Shape}
+use Rattle.pack.specs.Tracks.{startOf, trackAt, withTrack}
+use Rattle.pack.proofs.Laws.{lent-is, lent-back}
+use Rattle.commands.specs.declared.Control.{Control}
+use Rattle.commands.specs.declared.Command.{Command}
+use Rattle.commands.specs.declared.Command.the-variants.{Controls, Searches, Reads, Writes, Unknown}
+use Rattle.commands.specs.Commands.{commandOf}
+use Rattle.held.specs.declared.Stands.{Stands}
+use Rattle.held.specs.declared.Orders.{Orders}
+use Rattle.held.specs.declared.Held.{Held}
+use Rattle.held.specs.Held.{rested}
+use Rattle.outcome.specs.declared.Done.{Done}
+use Rattle.outcome.specs.Outcome.{checked}
+use Rattle.control.specs.Control.{Reaches, controls, puts}
+use Rattle.settle.specs.Settle.{heldAfter, storageAfter}
+use Rattle.chain.specs.Act.{Acted, acted, built, unknown, obeys, acts}
+use Rattle.chain.specs.Step.{World, world, under, stops, settled, obeyed, takes, step}
+
+acted-eq : {d e : Done} {s u t v : List ℕ} → d ≡ e → s ≡ u → t ≡ v → acted d s t ≡ acted e u v
+acted-eq p q r = λ i. record { done = p i; storage = q i; track = r i }
+
+pub world-eq : {h k : Held} {s t c d : List ℕ} → h ≡ k → s ≡ t → c ≡ d → world h s c ≡ world k t d
+world-eq p q r = λ i. record { held = p i; storage = q i; cells = r i }
+
+-- ---- the dispatch
+
+module _ (g : Shape) (c : Command) (s : Stands) (o : Orders) (w : Word) (st t : List ℕ) where
+  pub control-obeyed : (k : Control) (d : Done) (u : List ℕ) → c ≡ Controls k → d ≡ controls g k s o w st (marks t) → u ≡ overlay st (w .address) (puts k s w)
+      → acted d u t ≡ obeys g c s o w st t
+  unfolding obeys
+  control-obeyed k d u e p q = acted-eq p q refl ∙ ap (λ (x : Command). obeys g x s o w st t) (sym e)
+
+  -- a command that is not built, or no command
+  pub not-obeyed : (x : Command) (d : Done) → obeys g x s o w st t ≡ unknown s o w st t → c ≡ x → d ≡ checked s o (w .count) UnknownCode
+      → acted d st t ≡ obeys g c s o w st t
+  unfolding unknown
+  not-obeyed x d u e p = acted-eq p refl refl ∙ sym u ∙ ap (λ (y : Command). obeys g y s o w st t) (sym e)
+
+  pub by-code : (x : Command) (a : Acted) → x ≡ commandOf (w .code) → c ≡ built x → a ≡ obeys g c s o w st t → a ≡ acts g s o w st t
+  unfolding acts
+  by-code x a e p q = q ∙ ap (λ (y : Command). obeys g y s o w st t) (p ∙ ap built e)
+
+-- ---- a command on the track under the head
+
+module _ (g : Shape) (h : Held) (w : Word) (s cells : List ℕ) where
+  there : Acted
+  there = acts g (h .stands) (h .orders) w s (trackAt cells (under g h))
+
+  pub commanded : (a : ℕ) (d : Done) (s₁ t₁ s₂ : List ℕ) (r : Held) → a ≡ startOf g (h .stands .cylinder) (h .stands .head) → a + 4096 ≤ length cells
+      → acted d s₁ t₁ ≡ acts g (h .stands) (h .orders) w s (take (a + 4096 - a) (drop a cells))
+      → length t₁ ≡ length (take (a + 4096 - a) (drop a cells))
+      → r ≡ heldAfter (h .channel) w d → s₂ ≡ storageAfter (h .channel) w d s₁
+      → world r s₂ (putMid a (a + 4096 - a) cells t₁) ≡ obeyed g (world h s cells) w
+  unfolding obeyed settled there under
+  commanded a d s₁ t₁ s₂ r e fits did long p q =
+      let same : acted d s₁ t₁ ≡ there =
+      did ∙ ap (acts g (h .stands) (h .orders) w s) (lent-is cells a ∙ ap (trackAt cells) e) in
+      world-eq (p ∙ ap (λ (x : Acted). heldAfter (h .channel) w (x .done)) same)
+      (q ∙ ap (λ (x : Acted). storageAfter (h .channel) w (x .done) (x .storage)) same)
+      (lent-back (λ x. t₁) cells t₁ a (under g h) e fits long refl ∙ ap (λ (x : Acted). withTrack cells (under g h) (x .track)) same)
+
+-- ---- a step
+
+pub stopped : (h r : Held) (cause : Cause) (x : Status) (s u c : List ℕ) → r ≡ rested (h .stands) → x ≡ programCheck (h .channel .key) (h .channel .next) cause
+    → u ≡ stored s x → world r u c ≡ stops (world h s c) cause
+unfolding stops
+stopped h r cause x s u c p e q = world-eq p (q ∙ ap (stored s) e) refl
+
+pub taken : (g : Shape) (w v : World) (x y : Tested) → x ≡ tested (w .storage) (w .held .channel .next) (w .held .channel .«after_tic») → x ≡ y → v ≡ takes g w y → v ≡ step g w
+unfolding step
+taken g w v x y p q r = r ∙ ap (takes g w) (sym q ∙ p)
+
+pub word-reaches : (s : List ℕ) (at : ℕ) (tic : Bool) (x : Tested) (w : Word) → x ≡ tested s at tic → x ≡ Obey w → Reaches s w
+word-reaches s at tic x w p q = record { area = subst (TestedIn s) (sym p ∙ q) (tested-in s at tic) }

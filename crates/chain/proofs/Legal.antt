@@ -1,0 +1,310 @@
+-- A step leaves a legal world legal: no command moves the head off the pack, and storage, track and pack keep their sizes.
+-- A line a command. Assumes nothing.
+use Prim.Native.Nat.{ℕ, _+_, _*_, _<_, _≤_, min}
+use mathlib.Core.Path.{_≡_, refl, sym, ap, _∙_, subst}
+use mathlib.Core.Bool.{Bool, true, false, not}
+use mathlib.Core.List.{List, [], _∷_}
+use native.Mathlib.Omega.{arith}
+use lib.ListN.{length, getD, take, length-take}
+use lib.Dec.{eqb, ltb}
+use borrow.Author.Tests.{ltb-true}
+use Rattle.cells.specs.Choice.{pick, both}
+use Rattle.cells.specs.Bytes.{part, overlay}
+use Rattle.cells.specs.Cells.{trackCells, marks}
+use Rattle.cells.proofs.Laws.{length-overlay, part-overlay}
+use Rattle.cells.proofs.Tests.{pick-all}
+use Rattle.rows.specs.declared.Row.{Row}
+use Rattle.rows.specs.declared.Row.the-variants.{UnknownCode, BadMask, SecondMask, WrongBefore, SeekBarred, BadSeek}
+use Rattle.mask.specs.declared.Seeking.{Seeking}
+use Rattle.mask.specs.declared.Seeking.the-variants as Seeking
+use Rattle.mask.specs.Mask.{legal, barsSeek}
+use Rattle.words.specs.declared.Word.{Word}
+use Rattle.words.specs.declared.Tested.{Tested}
+use Rattle.words.specs.declared.Tested.the-variants.{Obey, Jump, Bad}
+use Rattle.words.specs.declared.Status.{Status}
+use Rattle.words.specs.declared.Cause.{Cause}
+use Rattle.words.specs.Words.{tested}
+use Rattle.words.specs.Status.{stored, statusBytes, statusAt}
+use Rattle.words.proofs.Obeys.{TestedIn, tested-in}
+use Rattle.pack.specs.declared.Cylinder.{Cylinder}
+use Rattle.pack.specs.declared.Head.{Head}
+use Rattle.pack.specs.declared.Shape.{Shape}
+use Rattle.pack.specs.declared.Sought.{Sought}
+use Rattle.pack.specs.declared.Sought.the-variants as Sought
+use Rattle.pack.specs.Shapes.{seekTo, seekHead}
+use Rattle.pack.specs.Tracks.{Whole, On, startOf, trackAt, withTrack}
+use Rattle.pack.proofs.Laws.{length-track, start-inside}
+use Rattle.pack.proofs.Seeks.{SoughtOn, seek-to-on, seek-head-on}
+use Rattle.commands.specs.declared.Control.{Control}
+use Rattle.commands.specs.declared.Control.the-variants.{NoOp, SenseBytes, Seeks, SetMask, SpaceRecord}
+use Rattle.commands.specs.declared.Command.{Command}
+use Rattle.commands.specs.declared.Command.the-variants.{Controls, Searches, Reads, Writes, Unknown}
+use Rattle.commands.specs.Commands.{commandOf, searchOf, readOf, writeOf, looks, worksHome, selects}
+use Rattle.hunt.specs.Hunt as Hunt
+use Rattle.hunt.proofs.Inside.{space-in}
+use Rattle.held.specs.declared.Selection.the-variants.{Nothing}
+use Rattle.held.specs.declared.Stands.{Stands}
+use Rattle.held.specs.declared.Orders.{Orders}
+use Rattle.held.specs.declared.Channel.{Channel}
+use Rattle.held.specs.declared.Held.{Held}
+use Rattle.held.specs.Held.{fresh, freshOrders, freshChannel, rested}
+use Rattle.outcome.specs.declared.Done.{Done}
+use Rattle.outcome.specs.declared.Ending.{Ending}
+use Rattle.outcome.specs.declared.Ending.the-variants.{Normal}
+use Rattle.outcome.specs.Outcome.{done, standing, sensing, placed, sought, ordered, after, checked}
+use Rattle.control.specs.Control.{Reaches, afterControl, noOp, senses, senseBytes, soughtAt, addressed, arrived, seeks, masked, masks, spaces, controls, puts}
+use Rattle.settle.specs.Settle.{goesOn, onward, stride, statusAfter, heldAfter, storageAfter}
+use Rattle.chain.specs.Act.{Acted, acted, built, unknown, obeys, acts}
+use Rattle.chain.specs.Step.{World, world, under, stops, jumped, settled, obeyed, takes, step}
+use Rattle.chain.specs.Legal.{selectionFits, Ordered, Channeled, Standing, Legal}
+
+-- ---- what a command leaves: on the pack, orders that fit, a track and storage of the sizes that they had
+
+-- orders that fit any track, or the track that is left, where the head has not moved
+pub data Chosen (s s′ : Stands) (o : Orders) (t : List ℕ) : Type 0 where
+  anywhere : ((m : List Bool) → Ordered m o) → Chosen s s′ o t
+  here : s′ .cylinder ≡ s .cylinder → s′ .head ≡ s .head → Ordered (marks t) o → Chosen s s′ o t
+
+pub record Left (g : Shape) (s : Stands) (d : Done) (t : List ℕ) : Type 0 where
+  pub standing : Standing g (d .stands)
+  pub chosen : Chosen s (d .stands) (d .orders) t
+
+pub record Fine (g : Shape) (s : Stands) (n m : ℕ) (a : Acted) : Type 0 where
+  pub left : Left g s (a .done) (a .track)
+  pub storage : length (a .storage) ≡ n
+  pub track : length (a .track) ≡ m
+
+control-selects : (c : Control) → selects (Controls c) ≡ false
+unfolding selects
+control-selects c = refl
+
+-- a control command by its code
+abbrev Coded : Word → Type 0
+Coded w = selects (commandOf (w .code)) ≡ false
+
+module _ (g : Shape) (s : Stands) (ok : Standing g s) (o : Orders) (t : List ℕ) (fit : Ordered (marks t) o) (w : Word) where
+  checked-left : (row : Row) → Left g s (checked s o (w .count) row) t
+  unfolding checked sensing standing
+  checked-left row = record { standing = record { on = ok .on; place = ok .place }; chosen = here refl refl fit }
+
+  -- after a control command nothing is selected
+  module _ (code : Coded w) where
+    free : (mask : ℕ) (set : Bool) → legal mask ≡ true → (m : List Bool) → Ordered m (ordered mask set (w .code) false 0 Nothing)
+    unfolding ordered selectionFits
+    free mask set l m = record { mask = l; tally = omega arith; selected = ap not code }
+
+    after-free : (m : List Bool) → Ordered m (afterControl o w)
+    unfolding after
+    after-free = free (o .mask) (o .«mask_set») (fit .mask)
+
+    placed-left : (p : ℕ) → p ≤ trackCells → (e : Ending) (moved wanted : ℕ) (lengths : Bool) → Left g s (done e moved wanted lengths (placed s p) (afterControl o w)) t
+    unfolding placed standing
+    placed-left p h e moved wanted lengths = record { standing = record { on = ok .on; place = h }; chosen = anywhere after-free }
+
+    arrived-left : (x : Sought) → SoughtOn g x → Left g s (arrived s o w x) t
+    unfolding arrived sought standing
+    arrived-left (Sought.Stands c h) k = record { standing = record { on = k; place = omega arith }; chosen = anywhere after-free }
+    arrived-left (Sought.Fails row) k = checked-left row
+
+    sought-on : (k : Seeking) (st : List ℕ) (at : ℕ) → SoughtOn g (soughtAt g k (s .cylinder) st at)
+    unfolding soughtAt
+    sought-on Seeking.Seek st at = seek-to-on g _ _ _
+    sought-on Seeking.SeekCylinder st at = seek-to-on g _ _ _
+    sought-on Seeking.SeekHead st at = seek-head-on g (s .cylinder) (ok .on .cylinder) _
+
+    addressed-on : (k : Seeking) (st : List ℕ) → SoughtOn g (addressed g k (s .cylinder) w st)
+    unfolding addressed
+    addressed-on k st = pick-all (SoughtOn g) (ltb (w .count) 6) {x = Sought.Fails BadSeek} tt (sought-on k st (w .address))
+
+    masked-left : (byte : ℕ) → legal byte ≡ true → Left g s (masked s o w byte) t
+    unfolding masked placed standing
+    masked-left byte l = record { standing = record { on = ok .on; place = ok .place }; chosen = anywhere (free byte true l) }
+
+    masks-left : (byte : ℕ) (b : Bool) → legal byte ≡ b → Left g s (pick b (pick (o .«mask_set») (checked s o (w .count) SecondMask) (masked s o w byte)) (checked s o (w .count) BadMask)) t
+    masks-left byte true e = pick-all (λ (d : Done). Left g s d t) (o .«mask_set») (checked-left SecondMask) (masked-left byte e)
+    masks-left byte false e = checked-left BadMask
+
+    controls-left : Hunt.Whole t → (c : Control) (st : List ℕ) → Left g s (controls g c s o w st (marks t)) t
+    unfolding controls noOp senses seeks masks spaces
+    controls-left wh NoOp st = record { standing = ok; chosen = anywhere after-free }
+    controls-left wh SenseBytes st = record { standing = ok; chosen = anywhere after-free }
+    controls-left wh (Seeks k) st =
+        pick-all (λ (d : Done). Left g s d t) (barsSeek (o .mask) k) (checked-left SeekBarred) (arrived-left _ (addressed-on k st))
+    controls-left wh SetMask st = masks-left (getD st (w .address) 0) (legal (getD st (w .address) 0)) refl
+    controls-left wh SpaceRecord st =
+        pick-all (λ (d : Done). Left g s d t) (looks (commandOf (o .before)))
+        (placed-left _ (space-in t (s .place) (worksHome (commandOf (o .before))) wh) Normal 0 0 false) (checked-left WrongBefore)
+
+-- ---- sizes
+
+puts-short : (c : Control) (s : Stands) (w : Word) → length (puts c s w) ≤ w .count
+unfolding puts
+puts-short NoOp s w = omega arith
+puts-short SenseBytes s w = omega (arith, length-take (w .count) (senseBytes s))
+puts-short (Seeks k) s w = omega arith
+puts-short SetMask s w = omega arith
+puts-short SpaceRecord s w = omega arith
+
+module _ (g : Shape) (s : Stands) (ok : Standing g s) (o : Orders) (t : List ℕ) (fit : Ordered (marks t) o) (w : Word) (st : List ℕ) (r : Reaches st w) (wh : Hunt.Whole t) where
+  unknown-fine : Fine g s (length st) (length t) (unknown s o w st t)
+  unfolding unknown
+  unknown-fine = record { left = checked-left g s ok o t fit w UnknownCode; storage = refl; track = refl }
+
+  -- a command that is built is a control command, which selects nothing
+  control-coded : (c : Command) → commandOf (w .code) ≡ c → Fine g s (length st) (length t) (obeys g (built c) s o w st t)
+  unfolding obeys built
+  control-coded (Controls c) e = record {
+    left = controls-left g s ok o t fit w (ap selects e ∙ control-selects c) wh c st;
+    storage = length-overlay st (w .address) (puts c s w) (omega (arith, puts-short c s w, r .area));
+    track = refl;
+  }
+  control-coded (Searches c) e = unknown-fine
+  control-coded (Reads c) e = unknown-fine
+  control-coded (Writes c) e = unknown-fine
+  control-coded Unknown e = unknown-fine
+
+  pub acts-fine : Fine g s (length st) (length t) (acts g s o w st t)
+  unfolding acts
+  acts-fine = control-coded (commandOf (w .code)) refl
+
+-- ---- a step
+
+-- storage and pack of the sizes that they had
+pub record Sizes (w v : World) : Type 0 where
+  pub storage : length (v .storage) ≡ length (w .storage)
+  pub cells : length (v .cells) ≡ length (w .cells)
+
+length-stored : (s : List ℕ) (x : Status) → 80 ≤ length s → length (stored s x) ≡ length s
+unfolding stored
+length-stored s x h = length-overlay s statusAt (statusBytes x) (omega arith)
+
+fresh-ordered : (m : List Bool) (s : Stands) → Ordered m (rested s .orders)
+unfolding rested fresh freshOrders selectionFits legal commandOf searchOf readOf writeOf selects
+fresh-ordered m s = record { mask = refl; tally = omega arith; selected = refl }
+
+fresh-channeled : (s : Stands) → Channeled (rested s .channel)
+unfolding rested fresh freshChannel
+fresh-channeled s = record { key = omega arith; next = omega arith }
+
+rested-standing : (g : Shape) (s : Stands) → Standing g s → Standing g (rested s .stands)
+unfolding rested
+rested-standing g s k = k
+
+module _ (g : Shape) (w : World) (L : Legal g w) where
+  inside : under g (w .held) + trackCells ≤ length (w .cells)
+  unfolding under
+  inside = start-inside g _ _ (L .standing .on) (w .cells) (L .whole)
+
+  pub track-whole : Hunt.Whole (trackAt (w .cells) (under g (w .held)))
+  track-whole = record { long = length-track (w .cells) (under g (w .held)) inside }
+
+  -- a chain at its end is legal
+  rests : (s : Stands) → Standing g s → (st c : List ℕ) → length st ≡ length (w .storage) → length c ≡ length (w .cells) → Legal g (world (rested s) st c)
+  rests s k st c l m = record {
+    whole = record { cylinders = L .whole .cylinders; heads = L .whole .heads; count = m ∙ L .whole .count };
+    room = omega (arith, L .room);
+    standing = rested-standing g s k;
+    ordered = fresh-ordered _ s;
+    channeled = fresh-channeled s;
+  }
+
+  stops-legal : (cause : Cause) → Legal g (stops w cause)
+  unfolding stops
+  stops-legal cause = rests (w .held .stands) (L .standing) _ _ (length-stored (w .storage) _ (L .room)) refl
+
+  jumped-legal : (a : ℕ) → Legal g (world (jumped (w .held) a) (w .storage) (w .cells))
+  unfolding jumped under
+  jumped-legal a = record {
+    whole = L .whole;
+    room = L .room;
+    standing = L .standing;
+    ordered = L .ordered;
+    channeled = record { key = L .channeled .key; next = omega arith };
+  }
+
+  module _ (d : Word) (a : Acted) (f : Fine g (w .held .stands) (length (w .storage)) (length (trackAt (w .cells) (under g (w .held)))) a) where
+    full : length (a .track) ≡ trackCells
+    full = f .track ∙ length-track (w .cells) (under g (w .held)) inside
+
+    kept-size : length (withTrack (w .cells) (under g (w .held)) (a .track)) ≡ length (w .cells)
+    unfolding withTrack
+    kept-size = length-overlay (w .cells) (under g (w .held)) (a .track) (omega (arith, full, inside))
+
+    -- the track is found again where it was put
+    found-again : trackAt (withTrack (w .cells) (under g (w .held)) (a .track)) (under g (w .held)) ≡ a .track
+    unfolding trackAt withTrack
+    found-again =
+        ap (part (overlay (w .cells) (under g (w .held)) (a .track)) (under g (w .held))) (sym full)
+        ∙ part-overlay (w .cells) (under g (w .held)) (a .track) (omega (arith, full, inside))
+
+    under-same : (h : Held) → h .stands .cylinder ≡ w .held .stands .cylinder → h .stands .head ≡ w .held .stands .head → under g h ≡ under g (w .held)
+    unfolding under
+    under-same h p q = λ i. startOf g (p i) (q i)
+
+    fits-there : (h : Held) → Chosen (w .held .stands) (h .stands) (h .orders) (a .track)
+        → Ordered (marks (trackAt (withTrack (w .cells) (under g (w .held)) (a .track)) (under g h))) (h .orders)
+    fits-there h (anywhere k) = k _
+    fits-there h (here p q k) =
+        subst (λ (x : List ℕ). Ordered (marks x) (h .orders))
+        (sym (ap (trackAt (withTrack (w .cells) (under g (w .held)) (a .track))) (under-same h p q) ∙ found-again)) k
+
+    onward-channeled : (n : ℕ) → Channeled (onward (w .held .channel) n)
+    unfolding onward
+    onward-channeled n = record { key = L .channeled .key; next = omega arith }
+
+    goes : Legal g (world (record { stands = a .done .stands; orders = a .done .orders; channel = onward (w .held .channel) (stride (a .done .ending)) })
+        (a .storage) (withTrack (w .cells) (under g (w .held)) (a .track)))
+    goes = record {
+      whole = record { cylinders = L .whole .cylinders; heads = L .whole .heads; count = kept-size ∙ L .whole .count };
+      room = omega (arith, L .room, f .storage);
+      standing = f .left .standing;
+      ordered = fits-there _ (f .left .chosen);
+      channeled = onward-channeled _;
+    }
+
+    settled-legal : Legal g (settled g w d a)
+    unfolding settled heldAfter storageAfter
+    settled-legal = go (goesOn d (a .done))
+      where
+        go : (b : Bool) → Legal g (world (pick b (record { stands = a .done .stands; orders = a .done .orders; channel = onward (w .held .channel) (stride (a .done .ending)) }) (rested (a .done .stands)))
+            (pick b (a .storage) (stored (a .storage) (statusAfter (w .held .channel) d (a .done)))) (withTrack (w .cells) (under g (w .held)) (a .track)))
+        go true = goes
+        go false = rests (a .done .stands) (f .left .standing) _ _ (length-stored (a .storage) _ (omega (arith, L .room, f .storage)) ∙ f .storage) kept-size
+
+    settled-sizes : Sizes w (settled g w d a)
+    unfolding settled storageAfter
+    settled-sizes = record {
+      storage = pick-all (λ (x : List ℕ). length x ≡ length (w .storage)) (goesOn d (a .done)) (f .storage)
+          (length-stored (a .storage) _ (omega (arith, L .room, f .storage)) ∙ f .storage);
+      cells = kept-size;
+    }
+
+  obeyed-legal : (d : Word) → Reaches (w .storage) d → Legal g (obeyed g w d)
+  unfolding obeyed
+  obeyed-legal d r =
+      settled-legal d _ (acts-fine g (w .held .stands) (L .standing) (w .held .orders) (trackAt (w .cells) (under g (w .held))) (L .ordered) d (w .storage) r track-whole)
+
+  takes-legal : (x : Tested) → TestedIn (w .storage) x → Legal g (takes g w x)
+  unfolding takes
+  takes-legal (Obey d) h = obeyed-legal d (record { area = h })
+  takes-legal (Jump a) h = jumped-legal a
+  takes-legal (Bad cause) h = stops-legal cause
+
+  pub step-legal : Legal g (step g w)
+  unfolding step
+  step-legal = takes-legal _ (tested-in (w .storage) (w .held .channel .next) (w .held .channel .«after_tic»))
+
+  obeyed-sizes : (d : Word) → Reaches (w .storage) d → Sizes w (obeyed g w d)
+  unfolding obeyed
+  obeyed-sizes d r =
+      settled-sizes d _ (acts-fine g (w .held .stands) (L .standing) (w .held .orders) (trackAt (w .cells) (under g (w .held))) (L .ordered) d (w .storage) r track-whole)
+
+  takes-sizes : (x : Tested) → TestedIn (w .storage) x → Sizes w (takes g w x)
+  unfolding takes stops
+  takes-sizes (Obey d) h = obeyed-sizes d (record { area = h })
+  takes-sizes (Jump a) h = record { storage = refl; cells = refl }
+  takes-sizes (Bad cause) h = record { storage = length-stored (w .storage) _ (L .room); cells = refl }
+
+  pub step-sizes : Sizes w (step g w)
+  unfolding step
+  step-sizes = takes-sizes _ (tested-in (w .storage) (w .held .channel .next) (w .held .channel .«after_tic»))

@@ -1,0 +1,4 @@
+-- Laws of a chain.
+pub mod Legal
+pub mod Runs
+pub mod Laws

@@ -1,0 +1,36 @@
+-- Each byte is made as the model has it. Assumes nothing.
+use Rattle.cells.specs.Bytes.{part}
+use Rattle.held.specs.Bytes.{encoded}
+use borrow.Author.Needs.{needs}
+use Rattle.held.proofs.first_bytes.Statement.{statement}
+use Rattle.held.proofs.first_bytes.Tie as tie
+
+bit-of-requires : tie.Need-bit-of-requires
+bit-of-requires c κs = search needs
+
+bit-of-requires-2 : tie.Need-bit-of-requires-2
+bit-of-requires-2 c κs = search needs
+
+bit-of-requires-3 : tie.Need-bit-of-requires-3
+bit-of-requires-3 c κs = search needs
+
+bit-of-requires-4 : tie.Need-bit-of-requires-4
+bit-of-requires-4 c κs = search needs
+
+selection-no-requires : tie.Need-selection-no-requires
+selection-no-requires c κs = search needs
+
+returns : tie.Need-returns
+unfolding part encoded
+returns c = cc
+
+pub first-bytes-spec : {M : Type 1} → statement M
+first-bytes-spec =
+    tie.close
+    (tie.spec
+    bit-of-requires
+    bit-of-requires-2
+    bit-of-requires-3
+    bit-of-requires-4
+    selection-no-requires
+    returns)

@@ -1,0 +1,39 @@
+-- Each field is read where the model has it. Assumes nothing.
+use Rattle.held.specs.Bytes.{decoded}
+use borrow.Author.Needs.{needs}
+use Rattle.held.proofs.orders_in.Statement.{statement}
+use Rattle.held.proofs.orders_in.Tie as tie
+
+byte-at-requires : tie.Need-byte-at-requires
+byte-at-requires c κs = search needs
+
+set-at-requires : tie.Need-set-at-requires
+set-at-requires c κs = search needs
+
+byte-at-requires-2 : tie.Need-byte-at-requires-2
+byte-at-requires-2 c κs = search needs
+
+set-at-requires-2 : tie.Need-set-at-requires-2
+set-at-requires-2 c κs = search needs
+
+byte-at-requires-3 : tie.Need-byte-at-requires-3
+byte-at-requires-3 c κs = search needs
+
+selection-in-requires : tie.Need-selection-in-requires
+selection-in-requires c κs = search needs
+
+returns : tie.Need-returns
+unfolding decoded
+returns c = cc
+
+pub orders-in-spec : {M : Type 1} → statement M
+orders-in-spec =
+    tie.close
+    (tie.spec
+    byte-at-requires
+    set-at-requires
+    byte-at-requires-2
+    set-at-requires-2
+    byte-at-requires-3
+    selection-in-requires
+    returns)

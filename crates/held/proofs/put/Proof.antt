@@ -1,0 +1,53 @@
+-- Where there are 64 bytes, two stores lay all 64 over; else nothing is stored. Assumes nothing.
+use mathlib.Core.Path.{sym}
+use borrow.Author.Tests.{eq-eqb, ne-eqb}
+use Rattle.held.proofs.Laws.{both-stored}
+use borrow.Author.Needs.{needs}
+use Rattle.held.proofs.put.Statement.{statement}
+use Rattle.held.proofs.put.Tie as tie
+
+returns : tie.Need-returns
+returns c = let e = ne-eqb _ _ (c .if1 .taken) in (sym e, rw e)
+
+first-bytes-requires : tie.Need-first-bytes-requires
+first-bytes-requires c κs = search needs
+
+second-bytes-requires : tie.Need-second-bytes-requires
+second-bytes-requires c κs = search needs
+
+slice-aggregate-store : tie.Need-slice-aggregate-store
+slice-aggregate-store c = search needs
+
+store-requires : tie.Need-store-requires
+store-requires c κs = search needs
+
+slice-aggregate-store-2 : tie.Need-slice-aggregate-store-2
+slice-aggregate-store-2 c = search needs
+
+store-requires-2 : tie.Need-store-requires-2
+store-requires-2 c κs = search needs
+
+same-length : tie.Need-same-length
+same-length c = search needs
+
+returns-2 : tie.Need-returns-2
+returns-2 c =
+    let s = c .before .before in
+    let b = s .before .before .before .before .before in
+    let d = b .before .before .before .before .before in
+    let e = eq-eqb _ _ (d .if1 .left) in
+    (sym e, rw (e, s .store2 .ensures, b .store .ensures) (both-stored _ _ _ _ (d .if1 .left) (b .before .before .before .before .first-bytes .ensures) (b .before .before .before .second-bytes .ensures)))
+
+pub put-spec : {M : Type 1} → statement M
+put-spec =
+    tie.close
+    (tie.spec
+    returns
+    first-bytes-requires
+    second-bytes-requires
+    slice-aggregate-store
+    store-requires
+    slice-aggregate-store-2
+    store-requires-2
+    same-length
+    returns-2)

@@ -1,0 +1,68 @@
+-- Each number is taken apart as the model has it. Assumes nothing.
+use Rattle.cells.specs.Bytes.{part}
+use Rattle.held.specs.Bytes.{encoded}
+use borrow.Author.Needs.{needs}
+use Rattle.held.proofs.second_bytes.Statement.{statement}
+use Rattle.held.proofs.second_bytes.Tie as tie
+
+selection-cell-requires : tie.Need-selection-cell-requires
+selection-cell-requires c κs = search needs
+
+high-requires : tie.Need-high-requires
+high-requires c κs = search needs
+
+low-requires : tie.Need-low-requires
+low-requires c κs = search needs
+
+high-requires-2 : tie.Need-high-requires-2
+high-requires-2 c κs = search needs
+
+low-requires-2 : tie.Need-low-requires-2
+low-requires-2 c κs = search needs
+
+high-requires-3 : tie.Need-high-requires-3
+high-requires-3 c κs = search needs
+
+low-requires-3 : tie.Need-low-requires-3
+low-requires-3 c κs = search needs
+
+high-requires-4 : tie.Need-high-requires-4
+high-requires-4 c κs = search needs
+
+low-requires-4 : tie.Need-low-requires-4
+low-requires-4 c κs = search needs
+
+cast-t18 : tie.Need-cast-t18
+cast-t18 c = search needs
+
+cast-t21 : tie.Need-cast-t21
+cast-t21 c = search needs
+
+cast-t24 : tie.Need-cast-t24
+cast-t24 c = search needs
+
+cast-t26 : tie.Need-cast-t26
+cast-t26 c = search needs
+
+returns : tie.Need-returns
+unfolding part encoded
+returns c = cc
+
+pub second-bytes-spec : {M : Type 1} → statement M
+second-bytes-spec =
+    tie.close
+    (tie.spec
+    selection-cell-requires
+    high-requires
+    low-requires
+    high-requires-2
+    low-requires-2
+    high-requires-3
+    low-requires-3
+    high-requires-4
+    low-requires-4
+    cast-t18
+    cast-t21
+    cast-t24
+    cast-t26
+    returns)

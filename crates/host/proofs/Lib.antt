@@ -1,0 +1,3 @@
+-- Laws of what the host hears.
+pub mod Laws
+pub mod Cut

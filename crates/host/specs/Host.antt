@@ -1,0 +1,132 @@
+-- Document 01, "What the host hears": the answers, the refusals in their order, a start, and going on. Assumes nothing.
+use Prim.Native.Nat.{ℕ, _+_, _≤_}
+use mathlib.Core.Bool.{Bool, true, false}
+use mathlib.Core.List.{List, [], _∷_}
+use lib.ListN.{length}
+use lib.Dec.{ltb, leb}
+use Rattle.cells.specs.Choice.{pick, both}
+use Rattle.cells.specs.Bytes.{overlay}
+use Rattle.cells.specs.Cells.{trackCells, marks}
+use Rattle.mask.specs.Mask.{legal}
+use Rattle.words.specs.declared.Word.{Word}
+use Rattle.words.specs.declared.Begun.{Begun}
+use Rattle.words.specs.declared.Begun.the-variants.{Begins, Refused}
+use Rattle.words.specs.declared.Tested.{Tested}
+use Rattle.words.specs.declared.Tested.the-variants.{Obey, Jump, Bad}
+use Rattle.words.specs.Words.{addresses, along, begunBy, tested}
+use Rattle.pack.specs.declared.Shape.{Shape}
+use Rattle.pack.specs.Shapes.{packFits, cylinderOn, headOn}
+use Rattle.pack.specs.Tracks.{trackAt}
+use Rattle.held.specs.declared.Stands.{Stands}
+use Rattle.held.specs.declared.Orders.{Orders}
+use Rattle.held.specs.declared.Channel.{Channel}
+use Rattle.held.specs.declared.Held.{Held}
+use Rattle.held.specs.Held.{fresh}
+use Rattle.chain.specs.Step.{World, world, under, run}
+use Rattle.chain.specs.Legal.{selectionFits, keys, mostTally, leastStorage}
+use Rattle.host.specs.declared.Answer.{Answer}
+use Rattle.host.specs.declared.Answer.the-variants.{ChainEnded, AllowanceUsed, BadStorage, BadPack, BadHeld, BadStart, NoChain, ChainGoing}
+use Rattle.host.specs.declared.Guarded.{Guarded}
+use Rattle.host.specs.declared.Guarded.the-variants.{Passes, Answers}
+
+-- document 01's number of each answer
+unfoldable pub answerNo : Answer → ℕ
+answerNo ChainEnded = 0
+answerNo AllowanceUsed = 1
+answerNo BadStorage = 2
+answerNo BadPack = 3
+answerNo BadHeld = 4
+answerNo BadStart = 5
+answerNo NoChain = 6
+answerNo ChainGoing = 7
+
+-- an answer, and all that is left
+pub record Hears : Type 0 where
+  pub answer : Answer
+  pub left : World
+
+abbrev pub hears : Answer → World → Hears
+hears a w = record { answer = a; left = w }
+
+-- ---- refusals 2, 3 and 4
+
+-- 2: storage under 80 or over 16,777,216 bytes
+unfoldable pub storageFits : ℕ → Bool
+storageFits n = both (leb leastStorage n) (leb n addresses)
+
+-- 4: off the pack, place over 4,096
+unfoldable pub standsFit : Shape → Stands → Bool
+standsFit g s =
+    both (cylinderOn g (s .cylinder .0)) (both (headOn g (s .head .0)) (leb (s .place) trackCells))
+
+-- illegal mask, tally over 1, a selection that does not fit
+unfoldable pub ordersFit : List Bool → Orders → Bool
+ordersFit m o = both (legal (o .mask)) (both (leb (o .tally) mostTally) (selectionFits m o (o .selection)))
+
+-- key over 15, next address over 24 bits
+unfoldable pub channelFits : Channel → Bool
+channelFits c = both (ltb (c .key) keys) (ltb (c .next) addresses)
+
+unfoldable pub heldFits : Shape → World → Bool
+heldFits g w =
+    both (standsFit g (w .held .stands))
+    (both (channelFits (w .held .channel)) (ordersFit (marks (trackAt (w .cells) (under g (w .held)))) (w .held .orders)))
+
+-- in order
+unfoldable pub guardOf : Shape → World → Guarded
+guardOf g w =
+    pick (storageFits (length (w .storage)))
+    (pick (packFits g (length (w .cells)))
+    (pick (heldFits g w) Passes (Answers BadHeld))
+    (Answers BadPack))
+    (Answers BadStorage)
+
+-- bytes that encode no held state: refusal 4, in its place after 2 and 3
+unfoldable pub wrongHeld : Shape → ℕ → ℕ → Answer
+wrongHeld g s c = pick (storageFits s) (pick (packFits g c) BadHeld BadPack) BadStorage
+
+-- a refusal leaves all unchanged
+unfoldable pub guards : Guarded → World → Hears → Hears
+guards Passes w x = x
+guards (Answers a) w x = hears a w
+
+-- ---- a start
+
+-- 5: bytes 68 and 69 become 00 20, no chain, all else unchanged
+unfoldable pub refusesStart : World → Hears
+refusesStart w = hears BadStart (world (w .held) (overlay (w .storage) 68 (0x00 ∷ 0x20 ∷ [])) (w .cells))
+
+-- a good start resets all but cylinder, head, place and sense
+unfoldable pub beginning : Held → ℕ → ℕ → Held
+beginning h key next = record {
+  stands = h .stands;
+  orders = fresh .orders;
+  channel = record { going = true; key = key; next = next; «after_tic» = false };
+}
+
+-- the first word is tested, and nothing runs
+unfoldable pub firstWord : World → ℕ → ℕ → Tested → Hears
+firstWord w key next (Obey d) = hears AllowanceUsed (world (beginning (w .held) key next) (w .storage) (w .cells))
+firstWord w key next (Jump a) = refusesStart w
+firstWord w key next (Bad cause) = refusesStart w
+
+unfoldable pub begins : World → Begun → Hears
+begins w (Begins key first) = firstWord w key (along first 0) (tested (w .storage) (along first 0) false)
+begins w Refused = refusesStart w
+
+-- 7: with one going
+unfoldable pub starts : Shape → World → Hears
+starts g w =
+    guards (guardOf g w) w
+    (pick (w .held .channel .going) (hears ChainGoing w) (begins w (begunBy (w .storage))))
+
+-- ---- going on
+
+-- 0: chain ended; 1: allowance used, not ended
+unfoldable pub ran : World → Hears
+ran w = hears (pick (w .held .channel .going) AllowanceUsed ChainEnded) w
+
+-- 6: with no chain
+unfoldable pub goes : Shape → ℕ → World → Hears
+goes g n w =
+    guards (guardOf g w) w (pick (w .held .channel .going) (ran (run g n w)) (hears NoChain w))

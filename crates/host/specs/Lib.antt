@@ -1,0 +1,2 @@
+-- The model of what the host hears.
+pub mod Host

@@ -1,0 +1,39 @@
+-- A seek that is accepted goes to a cylinder and a head of the pack. Assumes nothing.
+use Prim.Native.Nat.{ℕ, _<_}
+use mathlib.Core.Path.{_≡_, refl}
+use mathlib.Core.Bool.{Bool, true, false}
+use lib.Dec.{eqb, ltb}
+use borrow.Author.Tests.{ltb-true}
+use Rattle.cells.specs.Choice.{pick, both}
+use Rattle.cells.proofs.Tests.{first-of, second-of}
+use Rattle.rows.specs.declared.Row.{Row}
+use Rattle.rows.specs.declared.Row.the-variants.{BadSeek}
+use Rattle.pack.specs.declared.Cylinder.{Cylinder}
+use Rattle.pack.specs.declared.Head.{Head}
+use Rattle.pack.specs.declared.Shape.{Shape}
+use Rattle.pack.specs.declared.Sought.{Sought}
+use Rattle.pack.specs.declared.Sought.the-variants.{Stands, Fails}
+use Rattle.pack.specs.Shapes.{cylinderOn, headOn, stands, seekTo, seekHead}
+use Rattle.pack.specs.Tracks.{On}
+
+abbrev pub SoughtOn : Shape → Sought → Type 0
+SoughtOn g (Stands c h) = On g c h
+SoughtOn g (Fails row) = Unit {0}
+
+pub seek-to-on : (g : Shape) (bb cc hh : ℕ) → SoughtOn g (seekTo g bb cc hh)
+unfolding seekTo
+seek-to-on g bb cc hh = go (both (eqb bb 0) (both (cylinderOn g cc) (headOn g hh))) refl
+  where
+    go : (b : Bool) → both (eqb bb 0) (both (cylinderOn g cc) (headOn g hh)) ≡ b → SoughtOn g (pick b (stands cc hh) (Fails BadSeek))
+    go true e =
+        let f = second-of (eqb bb 0) _ e in
+        record { cylinder = ltb-true _ _ (first-of (cylinderOn g cc) _ f); head = ltb-true _ _ (second-of (cylinderOn g cc) _ f) }
+    go false e = tt
+
+pub seek-head-on : (g : Shape) (c : Cylinder) → c .0 < g .cylinders → (hh : ℕ) → SoughtOn g (seekHead g c hh)
+unfolding seekHead
+seek-head-on g c on hh = go (headOn g hh) refl
+  where
+    go : (b : Bool) → headOn g hh ≡ b → SoughtOn g (pick b (Stands c (record { 0 = hh })) (Fails BadSeek))
+    go true e = record { cylinder = on; head = ltb-true _ _ e }
+    go false e = tt
