@@ -36,7 +36,15 @@ fn built(c: Command) -> Command
     }
 }
 
-fn controlled(g: Shape, k: Control, s: Stands, o: Orders, w: Word, storage: &mut [u8], track: &[u16]) -> Done
+fn controlled(
+    g: Shape,
+    k: Control,
+    s: Stands,
+    o: Orders,
+    w: Word,
+    storage: &mut [u8],
+    track: &[u16],
+) -> Done
     requires { ⌜ Reaches (now storage) w × Whole (now track) ⌝ }
     ensures { λ r. ⌜ (r ≡ controls g k s o w (now (storage .entry)) (marks (now (track .entry)))) × (now (storage .exit) ≡ overlay (now (storage .entry)) (w .address) (puts k s w)) ⌝ }
 {
@@ -46,7 +54,15 @@ fn controlled(g: Shape, k: Control, s: Stands, o: Orders, w: Word, storage: &mut
 }
 
 // What a command leaves with the unit, in storage and on the track.
-fn obey(g: Shape, c: Command, s: Stands, o: Orders, w: Word, storage: &mut [u8], track: &mut [u16]) -> Done
+fn obey(
+    g: Shape,
+    c: Command,
+    s: Stands,
+    o: Orders,
+    w: Word,
+    storage: &mut [u8],
+    track: &mut [u16],
+) -> Done
     requires { ⌜ Reaches (now storage) w × Whole (now track) ⌝ }
     ensures { λ r. ⌜ acted r (now (storage .exit)) (now (track .exit)) ≡ obeys g c s o w (now (storage .entry)) (now (track .entry)) ⌝ }
 {
@@ -78,7 +94,14 @@ fn command(g: Shape, h: Held, w: Word, storage: &mut [u8], cells: &mut [u16]) ->
     let cylinder = stands.cylinder;
     let head = stands.head;
     let start = pack::start_of(g, cylinder, head);
-    let d = act(g, stands, orders, w, storage, &mut cells[start..start + 4096]);
+    let d = act(
+        g,
+        stands,
+        orders,
+        w,
+        storage,
+        &mut cells[start..start + 4096],
+    );
     settle::settle(channel, w, d, storage)
 }
 

@@ -27,7 +27,7 @@ use Rattle.host.specs.Host.{storageFits, standsFit, ordersFit, channelFi
 
 -- ---- refusal 4, part by part
 
-stands-standing : (g : Shape) (s : Stands) → standsFit g s ≡ true → Standing g s
+pub stands-standing : (g : Shape) (s : Stands) → standsFit g s ≡ true → Standing g s
 unfolding standsFit
 stands-standing g s e =
     let f = second-of (cylinderOn g (s .cylinder .0)) _ e in

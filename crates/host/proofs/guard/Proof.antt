@@ -1,39 +1,36 @@
+-- `host::guard` meets its contract: 2, 3, then 4. Assumes nothing.
+use mathlib.Core.Path.{sym, _∙_}
+use borrow.Author.Tests.{not-true, not-false}
+use Rattle.host.proofs.Laws.{fits-whole}
+use Rattle.host.proofs.Tells.{guard-2, guard-3, guard-4, guard-passes}
 use borrow.Author.Needs.{needs}
 use Rattle.host.proofs.guard.Statement.{statement}
 use Rattle.host.proofs.guard.Tie as tie
-use Rattle.host.proofs.guard.Reads as reads
-use Rattle.host.proofs.guard.Lts as lts
-use Rattle.host.proofs.held_fits.Reads as held-fits-reads
-use Rattle.host.proofs.storage_fits.Reads as storage-fits-reads
-use Rattle.pack.proofs.pack_fits.Reads as pack-fits-reads
 
--- src/lib.rt:161:9
 storage-fits-requires : tie.Need-storage-fits-requires
 storage-fits-requires c κs = search needs
 
--- src/lib.rt:162:9
 returns : tie.Need-returns
-returns c = ?
+returns c = guard-2 _ _ _ (c .before .storage-fits .ensures) (not-true _ (c .if1 .taken))
 
--- src/lib.rt:164:9
 pack-fits-requires : tie.Need-pack-fits-requires
 pack-fits-requires c κs = search needs
 
--- src/lib.rt:165:9
 returns-2 : tie.Need-returns-2
-returns-2 c = ?
+returns-2 c = guard-3 _ _ _ (c .before .before .before .storage-fits .ensures) (not-false _ (c .before .before .if1 .left)) _ (c .before .pack-fits .ensures) (not-true _ (c .if2 .taken))
 
--- src/lib.rt:167:9
 held-fits-requires : tie.Need-held-fits-requires
-held-fits-requires c κs = ?
+held-fits-requires c κs = fits-whole _ _ (sym (c .before .pack-fits .ensures) ∙ not-false _ (c .if2 .left))
 
--- src/lib.rt:168:9
 returns-3 : tie.Need-returns-3
-returns-3 c = ?
+returns-3 c =
+    let b = c .before .before in
+    guard-4 _ _ _ (b .before .before .before .storage-fits .ensures) (not-false _ (b .before .before .if1 .left)) _ (b .before .pack-fits .ensures) (not-false _ (b .if2 .left)) _ (c .before .held-fits .ensures _) (not-true _ (c .if3 .taken))
 
--- src/lib.rt:158:1
 returns-4 : tie.Need-returns-4
-returns-4 c = ?
+returns-4 c =
+    let b = c .before .before in
+    guard-passes _ _ _ (b .before .before .before .storage-fits .ensures) (not-false _ (b .before .before .if1 .left)) _ (b .before .pack-fits .ensures) (not-false _ (b .if2 .left)) _ (c .before .held-fits .ensures _) (not-false _ (c .if3 .left))
 
 pub guard-spec : {M : Type 1} → statement M
 guard-spec =

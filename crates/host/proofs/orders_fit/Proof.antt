@@ -1,30 +1,26 @@
+-- `host::orders_fit` meets its contract: mask, tally, then selection. Assumes nothing.
+use borrow.Author.Tests.{not-true, not-false}
+use Rattle.host.proofs.Tells.{bad-mask, bad-tally, by-selection}
 use borrow.Author.Needs.{needs}
 use Rattle.host.proofs.orders_fit.Statement.{statement}
 use Rattle.host.proofs.orders_fit.Tie as tie
-use Rattle.host.proofs.orders_fit.Reads as reads
-use Rattle.host.proofs.orders_fit.Lts as lts
-use Rattle.host.proofs.selection_fits.Reads as selection-fits-reads
-use Rattle.mask.proofs.is_legal.Reads as is-legal-reads
 
--- src/lib.rt:114:9
 is-legal-requires : tie.Need-is-legal-requires
 is-legal-requires c κs = search needs
 
--- src/lib.rt:115:9
 returns : tie.Need-returns
-returns c = ?
+returns c = bad-mask _ _ _ (c .before .is-legal .ensures) (not-true _ (c .if1 .taken))
 
--- src/lib.rt:118:9
 returns-2 : tie.Need-returns-2
-returns-2 c = ?
+returns-2 c = bad-tally _ _ _ (c .before .before .before .is-legal .ensures) (not-false _ (c .before .before .if1 .left)) (c .if2 .taken)
 
--- src/lib.rt:121:5
 selection-fits-requires : tie.Need-selection-fits-requires
 selection-fits-requires c κs = search needs
 
--- src/lib.rt:111:1
 returns-3 : tie.Need-returns-3
-returns-3 c = ?
+returns-3 c =
+    let b = c .before .before .before in
+    by-selection _ _ _ (b .before .is-legal .ensures) (not-false _ (b .if1 .left)) (c .before .if2 .left) _ (c .selection-fits .ensures)
 
 pub orders-fit-spec : {M : Type 1} → statement M
 orders-fit-spec =

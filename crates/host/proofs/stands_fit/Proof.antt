@@ -1,28 +1,27 @@
+-- `host::stands_fit` meets its contract: it makes the model's tests. Assumes nothing.
+use Rattle.cells.proofs.Tests.{tests}
+use Rattle.host.specs.Host.{standsFit}
 use borrow.Author.Needs.{needs}
 use Rattle.host.proofs.stands_fit.Statement.{statement}
 use Rattle.host.proofs.stands_fit.Tie as tie
-use Rattle.host.proofs.stands_fit.Reads as reads
-use Rattle.host.proofs.stands_fit.Lts as lts
 
--- src/lib.rt:75:23
 cast-if1 : tie.Need-cast-if1
 cast-if1 c = search needs
 
--- src/lib.rt:76:9
 returns : tie.Need-returns
-returns c = ?
+unfolding standsFit
+returns c = search tests
 
--- src/lib.rt:78:19
 cast-if2 : tie.Need-cast-if2
 cast-if2 c = search needs
 
--- src/lib.rt:79:9
 returns-2 : tie.Need-returns-2
-returns-2 c = ?
+unfolding standsFit
+returns-2 c = search tests
 
--- src/lib.rt:72:1
 returns-3 : tie.Need-returns-3
-returns-3 c = ?
+unfolding standsFit
+returns-3 c = search tests
 
 pub stands-fit-spec : {M : Type 1} → statement M
 stands-fit-spec = tie.close (tie.spec cast-if1 returns cast-if2 returns-2 returns-3)

@@ -1,49 +1,44 @@
+-- `host::start` meets its contract: the refusals, a chain going, then the first word. Assumes nothing.
+use mathlib.Core.Path.{sym, _∙_}
+use Rattle.host.proofs.Laws.{passes-legal}
+use Rattle.host.proofs.Tells.{start-refused, start-going, start-begins}
 use borrow.Author.Needs.{needs}
 use Rattle.host.proofs.start.Statement.{statement}
 use Rattle.host.proofs.start.Tie as tie
-use Rattle.host.proofs.start.Reads as reads
-use Rattle.host.proofs.start.Lts as lts
-use Rattle.host.proofs.begin.Reads as begin-reads
-use Rattle.host.proofs.guard.Reads as guard-reads
 
--- src/lib.rt:233:34
 guard-requires : tie.Need-guard-requires
 guard-requires c κs = search needs
 
--- src/lib.rt:233:29
 enum-known-a : tie.Need-enum-known-a
 enum-known-a c = search needs
 
--- src/lib.rt:234:9
 same-length : tie.Need-same-length
 same-length c = search needs
 
--- src/lib.rt:234:9
 returns : tie.Need-returns
-returns c = ?
+returns c = start-refused _ _ _ (c .before .before .before .guard .ensures) _ (c .before .a .given .1)
 
 enum-told : tie.Need-enum-told
 enum-told c = search needs
 
--- src/lib.rt:237:9
 same-length-2 : tie.Need-same-length-2
 same-length-2 c = search needs
 
--- src/lib.rt:237:9
 returns-2 : tie.Need-returns-2
-returns-2 c = ?
+returns-2 c = start-going _ _ _ (c .before .before .before .guard .ensures) (c .before .enum-told .given .1) (c .if1 .taken)
 
--- src/lib.rt:242:5
 begin-requires : tie.Need-begin-requires
-begin-requires c κs = ?
+begin-requires c κs =
+    let b = c .before .before in
+    passes-legal _ _ (sym (b .before .before .guard .ensures) ∙ b .enum-told .given .1) .room
 
--- src/lib.rt:230:1
 same-length-3 : tie.Need-same-length-3
 same-length-3 c = search needs
 
--- src/lib.rt:230:1
 returns-3 : tie.Need-returns-3
-returns-3 c = ?
+returns-3 c =
+    let b = c .before .before .before .before in
+    start-begins _ _ _ (b .before .before .before .guard .ensures) (b .before .enum-told .given .1) (b .if1 .left) _ (c .before .before .begin .ensures _)
 
 pub start-spec : {M : Type 1} → statement M
 start-spec =

@@ -1,30 +1,24 @@
+-- `host::wrong_held` meets its contract: 2, 3, then 4. Assumes nothing.
+use borrow.Author.Tests.{not-true, not-false}
+use Rattle.host.proofs.Tells.{wrong-2, wrong-3, wrong-4}
 use borrow.Author.Needs.{needs}
 use Rattle.host.proofs.wrong_held.Statement.{statement}
 use Rattle.host.proofs.wrong_held.Tie as tie
-use Rattle.host.proofs.wrong_held.Reads as reads
-use Rattle.host.proofs.wrong_held.Lts as lts
-use Rattle.host.proofs.storage_fits.Reads as storage-fits-reads
-use Rattle.pack.proofs.pack_fits.Reads as pack-fits-reads
 
--- src/lib.rt:148:9
 storage-fits-requires : tie.Need-storage-fits-requires
 storage-fits-requires c κs = search needs
 
--- src/lib.rt:149:9
 returns : tie.Need-returns
-returns c = ?
+returns c = wrong-2 _ _ _ _ (c .before .storage-fits .ensures) (not-true _ (c .if1 .taken))
 
--- src/lib.rt:151:9
 pack-fits-requires : tie.Need-pack-fits-requires
 pack-fits-requires c κs = search needs
 
--- src/lib.rt:152:9
 returns-2 : tie.Need-returns-2
-returns-2 c = ?
+returns-2 c = wrong-3 _ _ _ _ (c .before .before .before .storage-fits .ensures) (not-false _ (c .before .before .if1 .left)) _ (c .before .pack-fits .ensures) (not-true _ (c .if2 .taken))
 
--- src/lib.rt:145:1
 returns-3 : tie.Need-returns-3
-returns-3 c = ?
+returns-3 c = wrong-4 _ _ _ _ (c .before .before .before .storage-fits .ensures) (not-false _ (c .before .before .if1 .left)) _ (c .before .pack-fits .ensures) (not-false _ (c .if2 .left))
 
 pub wrong-held-spec : {M : Type 1} → statement M
 wrong-held-spec =

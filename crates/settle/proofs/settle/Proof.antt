@@ -36,9 +36,10 @@ same-length c = search needs
 
 returns-2 : tie.Need-returns-2
 returns-2 c =
-    let b = c .before .before .before .before .before .before in
-    (c .rested .ensures ∙ held-rests _ _ _ _ (b .before .goes-on .ensures) (b .if1 .left),
-    c .before .before .before .store-status .ensures ∙ ap (stored _) (c .before .before .before .before .status-after .ensures) ∙ storage-ends _ _ _ _ _ (b .before .goes-on .ensures) (b .if1 .left))
+    let b = c .before .before .before .before .before .before in (
+      c .rested .ensures ∙ held-rests _ _ _ _ (b .before .goes-on .ensures) (b .if1 .left),
+      c .before .before .before .store-status .ensures ∙ ap (stored _) (c .before .before .before .before .status-after .ensures) ∙ storage-ends _ _ _ _ _ (b .before .goes-on .ensures) (b .if1 .left),
+    )
 
 pub settle-spec : {M : Type 1} → statement M
 settle-spec =
