@@ -1,0 +1,207 @@
+// The allowance: how words are counted, a chain that never ends, cutting it into parts, and several threads.
+use crate::lent::*;
+use poplar::{Answer, Shape, TRACK_CELLS};
+
+pub fn endless_loop(tally: &mut Tally) {
+    let mut world = world(&[no_op(CHAIN), tic(AT as u32)]).holding(4, &[0x80, 0x10]);
+    tally.same("start", world.start(), Answer::NotEnded);
+    let mut should = world.clone();
+    let at_no_op = (AT as u32).to_be_bytes();
+    let at_tic = (AT as u32 + 8).to_be_bytes();
+    let mut odd = false;
+    for allowance in [65535, 65535, 1, 0, 2, 65534, 65535, 1] {
+        tally.same("it goes on", world.go(allowance), Answer::NotEnded);
+        odd ^= allowance % 2 == 1;
+        // No status word: of all that is lent only the held state moved.
+        should = if odd {
+            should.holding(6, &[0, 0x03]).holding(20, &at_tic)
+        } else {
+            should.holding(6, &[1, 0x03]).holding(20, &at_no_op)
+        };
+        tally.worlds("it is given up, held", &world, &should);
+    }
+    refused(tally, "it is going", &world, Call::Start, Answer::ChainGoing);
+    // The host ends it by changing the word that is next.
+    let wanted = status(AT, 0x0C, 0, 1);
+    let last = world.storing(AT, &no_op(0));
+    ends(tally, "it ends", &last, wanted, sensing(0x80, 0x10));
+}
+
+pub fn allowance(tally: &mut Tally) {
+    // Five words: a No-op, a TIC, a No-op, a TIC, and one that is bad.
+    let mut world = world(&[no_op(CHAIN), tic(256)])
+        .storing(256, &no_op(CHAIN))
+        .storing(264, &tic(320))
+        .storing(320, &word(0x03, 0, 0, 0));
+    tally.same("start", world.start(), Answer::NotEnded);
+    let started = world.clone();
+    for words in 0..=4 {
+        let mut after = started.clone();
+        let what = format!("{words} of 5 words");
+        tally.same(&what, after.go(words), Answer::NotEnded);
+        tally.same(&what, &after.storage, &started.storage);
+        let next = [128, 136, 256, 264, 320][usize::from(words)];
+        tally.same(&what, after.view().next(), next);
+        let tic = words % 2 == 0 && words > 0;
+        tally.same(&what, after.view().after_tic(), tic);
+    }
+    for words in [5, 6, 65535] {
+        let mut after = started.clone();
+        let what = format!("{words} of 5 words");
+        tally.same(&what, after.go(words), Answer::Ended);
+        let bad = status_bytes(KEY, program_check(320));
+        let should = started.clone().storing(64, &bad);
+        tally.same(&what, after.storage, should.storage);
+    }
+    // Nothing is looked at: not even a word that is bad.
+    for next in [AT as u32, 1, 320, 16_777_215] {
+        let world = started.clone().holding(20, &next.to_be_bytes());
+        let what = format!("0 words, next {next}");
+        refused(tally, &what, &world, Call::Go(0), Answer::NotEnded);
+    }
+}
+
+// A xorshift generator: the same chains in each run.
+struct Dice(u64);
+
+impl Dice {
+    fn below(&mut self, n: usize) -> usize {
+        self.0 ^= self.0 << 13;
+        self.0 ^= self.0 >> 7;
+        self.0 ^= self.0 << 17;
+        (self.0 >> 33) as usize % n
+    }
+
+    fn of<T: Copy>(&mut self, choices: &[T]) -> T {
+        choices[self.below(choices.len())]
+    }
+}
+
+const WORDS: usize = 7;
+
+// Most words chain, suppress incorrect length and are right, so that many chains are still going after seven.
+fn random_word(dice: &mut Dice) -> [u8; 8] {
+    let slot = (AT + 8 * dice.below(WORDS)) as u32;
+    let data = (DATA + 8 * dice.below(4)) as u32;
+    let rare = dice.below(10) == 0;
+    let flags = match dice.below(20) {
+        0 => 0,
+        1 => CHAIN,
+        _ => BOTH,
+    };
+    match dice.below(12) {
+        0..=2 if rare => word(0x03, 0, 0x80, 0),
+        0..=2 => word(0x03, 0, flags, 9),
+        // now and then over a word of the chain
+        3..=5 if rare => word(0x04, slot, flags, 6),
+        3..=5 => word(0x04, dice.of(&[64, 300]), flags, dice.of(&[6, 4, 8])),
+        6 if rare => word(0x07, data, flags, 5),
+        6 => word(dice.of(&[0x07, 0x0B]), data, flags, dice.of(&[6, 8])),
+        7 | 8 => word(0x1B, data, flags, 6),
+        9 if rare => word(dice.of(&[0x17, 0x00]), 0, flags, 1),
+        9 => word(0x1F, DATA as u32 + 32, flags, dice.of(&[1, 2])),
+        10 if rare => tic(4),
+        10 => tic(slot),
+        _ => word(0x0F, 0, flags, 1),
+    }
+}
+
+fn random_world(dice: &mut Dice) -> World {
+    let words: Vec<[u8; 8]> = (0..WORDS).map(|_| random_word(dice)).collect();
+    let mut world = world(&words).marking(0, &[40, 90]).marking(1, &[30]);
+    world.shape = Shape { cylinders: 1, heads: 2 };
+    world.cells.truncate(2 * TRACK_CELLS);
+    for k in 0..4 {
+        let head = dice.of(&[0, 0, 0, 0, 1, 1, 1, 1, 2]);
+        world.store(DATA + 8 * k, &[0, 0, 0, 0, 0, head]);
+    }
+    world.store(DATA + 32, &[dice.of(&[0x00, 0xC0, 0xC0, 0x08, 0x10, 0xD8, 0x04])]);
+    let before = dice.of(&[0x00, 0x06, 0x1A, 0x12, 0x03]);
+    let selection = u8::from(before == 0x12);
+    let place = dice.of(&[0, 7, 31, 41, 91, 4096]);
+    world
+        .going()
+        .standing(0, dice.of(&[0, 1]), place)
+        .holding(4, &[dice.of(&[0x80, 0x08]), dice.of(&[0x10, 0x80])])
+        .holding(6, &[dice.of(&[0, 0, 0, 1]), before])
+        .holding(9, &[dice.of(&[0, 1]), selection])
+}
+
+// The parts of WORDS that the bits of `cut` leave, with `go 0` between them.
+fn parts(cut: usize) -> Vec<u16> {
+    let mut parts = vec![1];
+    for i in 0..WORDS - 1 {
+        if cut >> i & 1 == 1 {
+            parts.extend([0, 1]);
+        } else if let Some(last) = parts.last_mut() {
+            *last += 1;
+        }
+    }
+    parts
+}
+
+// For random chains of control commands: every way to cut seven words leaves the same, and answers the same on the way.
+pub fn cuts(tally: &mut Tally) {
+    const CHAINS: usize = 300;
+    let mut dice = Dice(0x2311_2841_0360_0001);
+    let (mut ended, mut held) = (0, 0);
+    for chain in 0..CHAINS {
+        let begun = random_world(&mut dice);
+        // What n words leave, each in one go.
+        let whole: Vec<(Answer, World)> = (0..=WORDS as u16)
+            .map(|n| {
+                let mut after = begun.clone();
+                (after.go(n), after)
+            })
+            .collect();
+        match whole[WORDS].0 {
+            Answer::Ended => ended += 1,
+            _ => held += 1,
+        }
+        for cut in 0..1 << (WORDS - 1) {
+            let mut world = begun.clone();
+            let mut run = 0;
+            let mut going = true;
+            let mut right = true;
+            for part in parts(cut) {
+                let heard = world.go(part);
+                run += usize::from(part);
+                let (answer, should) = &whole[run];
+                let wanted = if going { *answer } else { Answer::NoChain };
+                right &= heard == wanted && world == *should;
+                going &= *answer == Answer::NotEnded;
+            }
+            tally.holds(&format!("chain {chain}, parts {:?}", parts(cut)), right);
+        }
+    }
+    // The chains are no use if they all end, or none does.
+    tally.holds("a third of the chains end", ended > CHAINS / 3);
+    tally.holds("a tenth of the chains are held", held > CHAINS / 10);
+}
+
+// No global state: threads on memory of their own get what they get alone.
+pub fn threads(tally: &mut Tally) {
+    let begun: Vec<World> = {
+        let mut dice = Dice(0x2311_2841_0360_0002);
+        (0..40).map(|_| random_world(&mut dice)).collect()
+    };
+    let each = |begun: &[World]| -> Vec<(Answer, World)> {
+        let run = |world: &World| {
+            let mut after = world.clone();
+            (after.go(1000), after)
+        };
+        begun.iter().map(run).collect()
+    };
+    let alone = each(&begun);
+    let together: Vec<Vec<(Answer, World)>> = std::thread::scope(|scope| {
+        let running: Vec<_> = (0..4).map(|_| scope.spawn(|| each(&begun))).collect();
+        running.into_iter().map(|thread| thread.join().unwrap_or_default()).collect()
+    });
+    for (thread, got) in together.iter().enumerate() {
+        tally.same("each got all", got.len(), alone.len());
+        for (i, (is, should)) in got.iter().zip(&alone).enumerate() {
+            tally.same(&format!("thread {thread}, chain {i}"), is.0, should.0);
+            tally.worlds(&format!("thread {thread}, chain {i}"), &is.1, &should.1);
+        }
+    }
+}
