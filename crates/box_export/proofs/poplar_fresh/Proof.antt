@@ -16,13 +16,13 @@ same-length : tie.Need-same-length
 same-length c = search needs
 
 returns : tie.Need-returns
-returns c = let b = c .before .before .before in fresh-written _ _ _ _ _ _ (b .before .fresh .ensures) (b .put .ensures .0) (b .put .ensures .1) (ap bit (sym (c .if1 .taken)))
+returns c = let b = c .before .before .before in fresh-written (b .before .before .before .before .args .bytes .now) _ _ _ _ _ (b .before .fresh .ensures) (b .put .ensures .0) (b .put .ensures .1) (ap bit (sym (c .if1 .taken)))
 
 same-length-2 : tie.Need-same-length-2
 same-length-2 c = search needs
 
 returns-2 : tie.Need-returns-2
-returns-2 c = let b = c .before .before .before in fresh-written _ _ _ _ _ _ (b .before .fresh .ensures) (b .put .ensures .0) (b .put .ensures .1) (ap bit (sym (c .if1 .left)))
+returns-2 c = let b = c .before .before .before in fresh-written (b .before .before .before .before .args .bytes .now) _ _ _ _ _ (b .before .fresh .ensures) (b .put .ensures .0) (b .put .ensures .1) (ap bit (sym (c .if1 .left)))
 
 pub poplar-fresh-spec : {M : Type 1} → statement M
 poplar-fresh-spec =
