@@ -39,15 +39,19 @@ seek-head-requires c κs = search needs
 
 returns : tie.Need-returns
 unfolding soughtAt
-returns c = rw (c .before .enum-told .given .1) cc
+returns c =
+    let b = c .before .before .before in
+    rw (c .before .enum-told .given .1, c .seek-to .ensures, b .two3 .ensures, b .before .two2 .ensures, b .before .before .two .ensures)
 
 returns-2 : tie.Need-returns-2
 unfolding soughtAt
-returns-2 c = rw (c .before .enum-told2 .given .1) cc
+returns-2 c =
+    let b = c .before .before .before in
+    rw (c .before .enum-told2 .given .1, c .seek-to2 .ensures, b .two3 .ensures, b .before .two2 .ensures, b .before .before .two .ensures)
 
 returns-3 : tie.Need-returns-3
 unfolding soughtAt
-returns-3 c = rw (c .before .enum-told3 .given .1) cc
+returns-3 c = rw (c .before .enum-told3 .given .1, c .seek-head .ensures, c .before .before .before .two3 .ensures)
 
 pub sought-at-spec : {M : Type 1} → statement M
 sought-at-spec =

@@ -44,8 +44,9 @@ after-control-requires c κs = search needs
 returns-2 : tie.Need-returns-2
 unfolding spaces
 returns-2 c =
-    let b = c .before .before .before .before in
-    rw (← b .before .before .command-of .ensures, sym (b .before .is-look .ensures) ∙ not-false _ (b .if1 .left)) cc
+    let p = c .before .before in
+    let b = p .before .before in
+    rw (c .after-control .ensures, c .before .placed .ensures, p .space-record .ensures, ← b .before .before .command-of .ensures, ← p .before .is-home-work .ensures, sym (b .before .is-look .ensures) ∙ not-false _ (b .if1 .left))
 
 pub space-spec : {M : Type 1} → statement M
 space-spec =
