@@ -2,7 +2,7 @@
 use Prim.Native.Nat.{ℕ, _+_, _<_, _≤_}
 use mathlib.Core.Path.{_≡_, refl, sym, ap, _∙_}
 use mathlib.Core.Bool.{Bool, true, false}
-use mathlib.Core.List.{List, _++_, append-nil}
+use mathlib.Core.List.{List, [], _++_, append-nil}
 use native.Mathlib.Numerals.{add-one}
 use native.Mathlib.Omega.{arith}
 use lib.ListN.{length, getD, take, drop, set, drop-of-length-le}
@@ -56,5 +56,6 @@ pub both-stored : (v : List ℕ) (h : Held) (a b : List ℕ) → length v ≡ he
     → overlay (overlay v 0 (padded 12 a)) 12 (padded 52 b) ≡ encoded h
 unfolding overlay part padded encoded
 both-stored v h a b l p q =
-    rw (p, q) (overlay-append v 0 (take 12 (encoded h)) (drop 12 (encoded h)) (omega arith)
-    ∙ ap (λ (x : List ℕ). encoded h ++ x) (drop-of-length-le v {i = heldBytes} (omega arith)) ∙ append-nil (encoded h))
+    let all = overlay-append v 0 (take 12 (encoded h)) (drop 12 (encoded h)) (omega arith) in
+    let none-left : drop heldBytes v ≡ [] = drop-of-length-le v {i = heldBytes} (omega arith) in
+    rw (p, q) (all ∙ ap (λ (x : List ℕ). encoded h ++ x) none-left ∙ append-nil (encoded h))

@@ -346,6 +346,10 @@ fn second_bytes(h: Held) -> [u8; 12]
     let head = h.stands.head.0;
     let place = h.stands.place;
     let next = h.channel.next;
+    let top = (next / 16777216) as u8;
+    let upper = (next / 65536 % 256) as u8;
+    let lower = (next / 256 % 256) as u8;
+    let last = (next % 256) as u8;
     [
         high(cell),
         low(cell),
@@ -355,10 +359,10 @@ fn second_bytes(h: Held) -> [u8; 12]
         low(head),
         high(place),
         low(place),
-        (next / 16777216) as u8,
-        (next / 65536 % 256) as u8,
-        (next / 256 % 256) as u8,
-        (next % 256) as u8,
+        top,
+        upper,
+        lower,
+        last,
     ]
 }
 

@@ -1,13 +1,18 @@
 -- Where there are 64 bytes, two stores lay all 64 over; else nothing is stored. Assumes nothing.
-use mathlib.Core.Path.{sym}
+use mathlib.Core.Path.{_≡_, sym}
+use native.Mathlib.Omega.{arith}
+use lib.ListN.{length}
 use borrow.Author.Tests.{eq-eqb, ne-eqb}
+use Rattle.held.specs.Bytes.{heldBytes}
 use Rattle.held.proofs.Laws.{both-stored}
 use borrow.Author.Needs.{needs}
 use Rattle.held.proofs.put.Statement.{statement}
 use Rattle.held.proofs.put.Tie as tie
 
 returns : tie.Need-returns
-returns c = let e = ne-eqb _ _ (c .if1 .taken) in (sym e, rw e)
+returns c =
+    let e = ne-eqb (length (c .before .before .args .held .now)) heldBytes (λ l. omega arith) in
+    (sym e, rw e)
 
 first-bytes-requires : tie.Need-first-bytes-requires
 first-bytes-requires c κs = search needs
@@ -34,9 +39,12 @@ returns-2 : tie.Need-returns-2
 returns-2 c =
     let s = c .before .before in
     let b = s .before .before .before .before .before in
-    let d = b .before .before .before .before .before in
-    let e = eq-eqb _ _ (d .if1 .left) in
-    (sym e, rw (e, s .store2 .ensures, b .store .ensures) (both-stored _ _ _ _ (d .if1 .left) (b .before .before .before .before .first-bytes .ensures) (b .before .before .before .second-bytes .ensures)))
+    let d = b .before .before .before .before in
+    let start = d .before .before .before in
+    let l : length (start .args .held .now) ≡ heldBytes = omega (arith, d .before .if1 .left) in
+    let e = eq-eqb (length (start .args .held .now)) heldBytes l in
+    let laid = both-stored (start .args .held .now) (start .args .h) _ _ l (d .first-bytes .ensures) (b .before .before .before .second-bytes .ensures) in
+    (sym e, rw (e, s .store2 .ensures, b .store .ensures) laid)
 
 pub put-spec : {M : Type 1} → statement M
 put-spec =

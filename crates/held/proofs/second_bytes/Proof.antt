@@ -8,6 +8,18 @@ use Rattle.held.proofs.second_bytes.Tie as tie
 selection-cell-requires : tie.Need-selection-cell-requires
 selection-cell-requires c κs = search needs
 
+cast-top : tie.Need-cast-top
+cast-top c = search needs
+
+cast-upper : tie.Need-cast-upper
+cast-upper c = search needs
+
+cast-lower : tie.Need-cast-lower
+cast-lower c = search needs
+
+cast-last : tie.Need-cast-last
+cast-last c = search needs
+
 high-requires : tie.Need-high-requires
 high-requires c κs = search needs
 
@@ -32,18 +44,6 @@ high-requires-4 c κs = search needs
 low-requires-4 : tie.Need-low-requires-4
 low-requires-4 c κs = search needs
 
-cast-t18 : tie.Need-cast-t18
-cast-t18 c = search needs
-
-cast-t21 : tie.Need-cast-t21
-cast-t21 c = search needs
-
-cast-t24 : tie.Need-cast-t24
-cast-t24 c = search needs
-
-cast-t26 : tie.Need-cast-t26
-cast-t26 c = search needs
-
 returns : tie.Need-returns
 unfolding part encoded
 returns c = cc
@@ -53,6 +53,10 @@ second-bytes-spec =
     tie.close
     (tie.spec
     selection-cell-requires
+    cast-top
+    cast-upper
+    cast-lower
+    cast-last
     high-requires
     low-requires
     high-requires-2
@@ -61,8 +65,4 @@ second-bytes-spec =
     low-requires-3
     high-requires-4
     low-requires-4
-    cast-t18
-    cast-t21
-    cast-t24
-    cast-t26
     returns)
