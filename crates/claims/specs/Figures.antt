@@ -1,15 +1,21 @@
--- Document 01, "Figures to check": the starred figures, in one table. 1 and 9 come with the commands that they run. Assumes nothing.
-use Prim.Native.Nat.{ℕ, suc}
+-- Document 01, "Figures to check": the starred figures, in one table. 9, and the search of 1, come with the commands that they run.
+-- Assumes nothing.
+use Prim.Native.Nat.{ℕ, suc, _/_, _%_}
 use mathlib.Core.Path.{_≡_}
 use mathlib.Core.Bool.{Bool, true, false}
-use mathlib.Core.List.{List, [], _∷_}
+use mathlib.Core.List.{List, [], _∷_, _++_}
 use lib.IntN.{ℤ, pos, negsuc}
-use Rattle.cells.specs.Bytes.{number}
+use lib.ListN.{length, replicate}
+use Rattle.cells.specs.Bytes.{number, part, overlay}
+use Rattle.cells.specs.Cells.{trackCells}
 use Rattle.areas.specs.declared.Counts.{Counts}
 use Rattle.areas.specs.Areas.{zeroFirst, endBy, needed}
 use Rattle.room.specs.Room.{roomLeft, fits}
 use Rattle.mask.specs.Mask.{legal}
 use Rattle.rows.specs.declared.Row.the-variants.{BadSeek}
+use Rattle.rows.specs.Rows.{sense}
+use Rattle.words.specs.Words.{addressWord}
+use Rattle.words.specs.Status.{statusAt}
 use Rattle.pack.specs.declared.Cylinder.{Cylinder}
 use Rattle.pack.specs.declared.Shape.{Shape}
 use Rattle.pack.specs.declared.Sought.{Sought}
@@ -18,6 +24,14 @@ use Rattle.pack.specs.Shapes.{stands, seekTo, seekHead}
 use Rattle.compare.specs.declared.Compared.{Compared}
 use Rattle.compare.specs.declared.Compared.the-variants.{High}
 use Rattle.compare.specs.Compare.{compared}
+use Rattle.held.specs.declared.Stands.{Stands}
+use Rattle.held.specs.declared.Held.{Held}
+use Rattle.held.specs.declared.Selection.the-variants.{Nothing}
+use Rattle.held.specs.Held.{fresh, rested}
+use Rattle.outcome.specs.Outcome.{standing, ordered}
+use Rattle.chain.specs.Step.{world}
+use Rattle.host.specs.declared.Answer.the-variants.{ChainEnded, AllowanceUsed}
+use Rattle.host.specs.Host.{Hears, beginning, starts, goes}
 
 -- a count by its lengths; the rest of it makes no difference here
 abbrev pub lengths : ℕ → ℕ → Counts
@@ -33,7 +47,77 @@ fullPack = record { cylinders = 203; heads = 10 }
 abbrev pub cylinder : ℕ → Cylinder
 cylinder n = record { 0 = n }
 
+-- ---- the box at work
+
+-- a command word
+abbrev pub word : ℕ → ℕ → ℕ → ℕ → List ℕ
+word code address flags count =
+    code ∷ address / 65536 ∷ address / 256 % 256 ∷ address % 256 ∷ flags ∷ 0 ∷ count / 256 ∷ count % 256 ∷ []
+
+-- 512 bytes of storage: 72 holds 00000100, these words are at 256, these bytes at 128, and all else is zero
+abbrev pub storageWith : List ℕ → List ℕ → List ℕ
+storageWith words bytes =
+    overlay (overlay (overlay (replicate 512 0) addressWord (0x00 ∷ 0x00 ∷ 0x01 ∷ 0x00 ∷ [])) 256 words) 128 bytes
+
+-- a pack of one track, all zero
+abbrev pub onePack : Shape
+onePack = record { cylinders = 1; heads = 1 }
+
+abbrev pub zeroTrack : List ℕ
+zeroTrack = replicate trackCells 0
+
+-- the status word that is left, and where the head is left
+abbrev pub statusOf : Hears → List ℕ
+statusOf x = part (x .left .storage) statusAt 8
+
+abbrev pub standsOf : Hears → Stands
+standsOf x = x .left .held .stands
+
+-- where the head stands, and sense
+abbrev pub standsAt : ℕ → ℕ → ℕ → ℕ → ℕ → Stands
+standsAt cc hh place byte0 byte1 = standing (cylinder cc) (record { 0 = hh }) place (sense byte0 byte1)
+
+-- 1: at 256 Search HA, count 4, flag 40; at 272 No-op, count 1
+abbrev pub searchThenNoOp : List ℕ
+searchThenNoOp = storageWith (word 0x39 128 0x40 4 ++ replicate 8 0 ++ word 0x03 128 0x00 1) []
+
+-- what the search leaves once it is satisfied: the word 16 on is next, the place is 1, and all 4 bytes were equal
+abbrev pub searched : Held
+searched = record {
+  stands = standsAt 0 0 1 0 0;
+  orders = ordered 0 false 0x39 true 0 Nothing;
+  channel = record { going = true; key = 0; next = 272; «after_tic» = false };
+}
+
+abbrev pub started : Hears
+started = starts onePack (world fresh searchThenNoOp zeroTrack)
+
+abbrev pub noOpAfterSearch : Hears
+noOpAfterSearch = goes onePack 1 (world searched searchThenNoOp zeroTrack)
+
+-- 4 and 5: one Set File Mask word with these flags, and its byte
+abbrev pub maskWord : ℕ → ℕ → Hears
+maskWord flags byte =
+    goes onePack 1 (world (beginning fresh 0 256) (storageWith (word 0x1F 128 flags 1) (byte ∷ [])) zeroTrack)
+
+-- 6 and 7: one Seek word from cylinder 100, head 5, place 7, on a full pack with any cells
+abbrev pub seekWord : List ℕ → ℕ → ℕ → Hears
+seekWord cells cc hh =
+    goes fullPack 1
+    (world (beginning (rested (standsAt 100 5 7 0 0)) 0 256) (storageWith (word 0x07 128 0x40 6) (0 ∷ 0 ∷ 0 ∷ cc ∷ 0 ∷ hh ∷ [])) cells)
+
+-- a fact of a full pack, whatever its 8,314,880 cells hold
+abbrev pub OnFullPack : (List ℕ → Type 0) → Type 0
+OnFullPack fact = (cells : List ℕ) → length cells ≡ 8314880 → fact cells
+
 pub record Figures : Type 0 where
+  -- 1. 72 holds 00000100; at 256 Search HA; at 272 No-op. Status word: 00 00 01 18 0C 00 00 01. The start before the search and the No-op
+  -- after it are here; the search itself joins with the issue that builds it
+  pub one-start : started .answer ≡ AllowanceUsed
+  pub one-start-going : started .left .held .channel .going ≡ true
+  pub one-start-next : started .left .held .channel .next ≡ 256
+  pub one-end : noOpAfterSearch .answer ≡ ChainEnded
+  pub one-status : statusOf noOpAfterSearch ≡ 0x00 ∷ 0x00 ∷ 0x01 ∷ 0x18 ∷ 0x0C ∷ 0x00 ∷ 0x00 ∷ 0x01 ∷ []
   -- 2. R0 with DL 8 ends at cell 27; then DL 4,054 without key has room 0 and fits; 4,055 has room -1
   pub two-ends : afterZero ≡ suc 27
   pub two-room : roomLeft afterZero (needed (lengths 0 4054)) ≡ pos 0
@@ -44,15 +128,33 @@ pub record Figures : Type 0 where
   pub three : needed (lengths 4 0) ≡ 21
   -- 4. mask D8 legal
   pub four : legal 0xD8 ≡ true
+  pub four-going : maskWord 0x40 0xD8 .answer ≡ AllowanceUsed
+  pub four-held : maskWord 0x40 0xD8 .left .held .orders .mask ≡ 0xD8
+  pub four-end : maskWord 0x00 0xD8 .answer ≡ ChainEnded
+  pub four-status : statusOf (maskWord 0x00 0xD8) ≡ 0x00 ∷ 0x00 ∷ 0x01 ∷ 0x08 ∷ 0x0C ∷ 0x00 ∷ 0x00 ∷ 0x00 ∷ []
   -- 5. 04 and 20 not
   pub five-04 : legal 0x04 ≡ false
+  pub five-04-end : maskWord 0x40 0x04 .answer ≡ ChainEnded
+  pub five-04-status : statusOf (maskWord 0x40 0x04) ≡ 0x00 ∷ 0x00 ∷ 0x01 ∷ 0x08 ∷ 0x0E ∷ 0x00 ∷ 0x00 ∷ 0x00 ∷ []
+  pub five-04-sense : standsOf (maskWord 0x40 0x04) .sense ≡ sense 0x80 0x00
   pub five-20 : legal 0x20 ≡ false
+  pub five-20-end : maskWord 0x40 0x20 .answer ≡ ChainEnded
+  pub five-20-status : statusOf (maskWord 0x40 0x20) ≡ 0x00 ∷ 0x00 ∷ 0x01 ∷ 0x08 ∷ 0x0E ∷ 0x00 ∷ 0x00 ∷ 0x00 ∷ []
+  pub five-20-sense : standsOf (maskWord 0x40 0x20) .sense ≡ sense 0x80 0x00
   -- 6. on a full pack cylinder 202, head 9 accepted
   pub six : seekTo fullPack 0 202 9 ≡ stands 202 9
+  pub six-going : OnFullPack (λ cells. seekWord cells 202 9 .answer ≡ AllowanceUsed)
+  pub six-stands : OnFullPack (λ cells. standsOf (seekWord cells 202 9) ≡ standsAt 202 9 0 0 0)
   pub six-head : seekHead fullPack (cylinder 202) 9 ≡ stands 202 9
   -- 7. 203 or head 10 not
   pub seven-cylinder : seekTo fullPack 0 203 9 ≡ Fails BadSeek
+  pub seven-cylinder-end : OnFullPack (λ cells. seekWord cells 203 9 .answer ≡ ChainEnded)
+  pub seven-cylinder-status : OnFullPack (λ cells. statusOf (seekWord cells 203 9) ≡ 0x00 ∷ 0x00 ∷ 0x01 ∷ 0x08 ∷ 0x0E ∷ 0x00 ∷ 0x00 ∷ 0x00 ∷ [])
+  pub seven-cylinder-stands : OnFullPack (λ cells. standsOf (seekWord cells 203 9) ≡ standsAt 100 5 7 0x81 0x00)
   pub seven-head : seekTo fullPack 0 202 10 ≡ Fails BadSeek
+  pub seven-head-end : OnFullPack (λ cells. seekWord cells 202 10 .answer ≡ ChainEnded)
+  pub seven-head-status : OnFullPack (λ cells. statusOf (seekWord cells 202 10) ≡ 0x00 ∷ 0x00 ∷ 0x01 ∷ 0x08 ∷ 0x0E ∷ 0x00 ∷ 0x00 ∷ 0x00 ∷ [])
+  pub seven-head-stands : OnFullPack (λ cells. standsOf (seekWord cells 202 10) ≡ standsAt 100 5 7 0x81 0x00)
   pub seven-head-only : seekHead fullPack (cylinder 202) 10 ≡ Fails BadSeek
   -- 8. ID 0000000002 on track against 0000000001: high, not equal
   pub eight : compared (number (0 ∷ 0 ∷ 0 ∷ 0 ∷ 2 ∷ [])) (number (0 ∷ 0 ∷ 0 ∷ 0 ∷ 1 ∷ [])) ≡ High

@@ -1,11 +1,14 @@
-// The figures of document 01 that are run and not proved, each by a function of its own, which writes one line.
+// The figures of document 01 that are run and not proved, each by a function of its own, which writes its lines.
 ghost use Prim.Native.Nat.{_+_, _<_, _≤_};
 ghost use lib.ListN.{length};
+use held::Held;
 use libc::STDIN_FILENO;
 use libc::STDOUT_FILENO;
+use pack::Shape;
 
 fn main() {
     figure_10();
+    figure_12();
 }
 
 // The check over a text: the text is standard input.
@@ -64,4 +67,33 @@ fn digit(d: u16) -> u8
     requires { ⌜ d < 16 ⌝ }
 {
     if d < 10 { 48 + d as u8 } else { 55 + d as u8 }
+}
+
+// Storage of 79 and of 80 bytes, all zero: the least storage is 80, and there a start finds a word with count 0.
+fn figure_12() {
+    io::write_all(STDOUT_FILENO, b"12. Storage of 79 bytes: answer ");
+    answer_line(start_answer(&mut [0u8; 79]));
+    io::write_all(STDOUT_FILENO, b"12. Storage of 80 bytes: answer ");
+    answer_line(start_answer(&mut [0u8; 80]));
+}
+
+// What a start is answered: a fresh box, and a pack of one track.
+fn start_answer(storage: &mut [u8]) -> u8
+    ensures { λ r. ⌜ r < 8 ⌝ }
+{
+    let cells = [0u16; 4096];
+    let g = Shape {
+        cylinders: 1,
+        heads: 1,
+    };
+    let heard = host::start(g, Held::fresh(), storage, &cells);
+    let answer = heard.answer;
+    host::number_of(answer)
+}
+
+fn answer_line(number: u8)
+    requires { ⌜ number < 8 ⌝ }
+{
+    io::write_all(STDOUT_FILENO, &[digit(number as u16)]);
+    io::write_all(STDOUT_FILENO, b".\n");
 }
