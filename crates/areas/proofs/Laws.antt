@@ -1,14 +1,14 @@
 -- Laws of areas: an area off the track is not readable; one on it is readable where its cells are good; a count area's values are
 -- those of its cells; how many cells a record takes. Assumes nothing.
-use Prim.Native.Nat.{ℕ, _+_, _-_, _*_, _<_, _≤_, min, max}
-use mathlib.Core.Path.{_≡_, refl, sym, ap, ap₂, _∙_}
+use Prim.Native.Nat.{ℕ, _+_, _-_, _*_, _<_, _≤_, min}
+use mathlib.Core.Path.{_≡_, sym, ap, ap₂, _∙_}
 use mathlib.Core.Bool.{Bool, true, false}
 use mathlib.Core.List.{List}
 use native.Mathlib.Omega.{arith}
 use lib.ListN.{length, getD, take, drop, length-take, length-drop}
 use lib.Seq.{getD-take, getD-drop}
 use native.Mathlib.Nat.{add-zero, add-assoc}
-use lib.Dec.{eqb, lit<}
+use lib.Dec.{lit<}
 use borrow.Author.Tests.{ne-eqb, eq-eqb}
 use Rattle.cells.specs.Choice.{pick, both}
 use Rattle.cells.specs.Bytes.{part, be16}
@@ -18,7 +18,6 @@ use Rattle.house_check.specs.Area.{agrees, goodCells}
 use Rattle.areas.specs.declared.Area.{Area}
 use Rattle.areas.specs.declared.Counts.{Counts}
 use Rattle.areas.specs.declared.Part.the-variants.{Data}
-use Rattle.areas.specs.declared.CountRead.{CountRead}
 use Rattle.areas.specs.declared.CountRead.the-variants.{Reads, Fails}
 use Rattle.areas.specs.Areas.{area, countCells, readCount, dataBytes, dataArea, areaCells, readable, areaBytes, countArea, countsOf, countsAt, keyCells}
 

@@ -1,7 +1,7 @@
 -- Document 01, "What lies on a track": the home address, R0 and the records, where their areas lie, when an area is readable.
 -- A record is known by the first cell of its count area: 7 for R0, the cell after the marker for any other. Assumes nothing.
-use Prim.Native.Nat.{ℕ, _+_, _*_, max}
-use mathlib.Core.Bool.{Bool, true, false}
+use Prim.Native.Nat.{ℕ, _+_, max}
+use mathlib.Core.Bool.{Bool}
 use mathlib.Core.List.{List}
 use lib.ListN.{getD, take}
 use lib.Dec.{eqb}

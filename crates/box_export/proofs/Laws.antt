@@ -1,6 +1,6 @@
 -- What the code's calls come to, in the model's words, and that a refusal leaves every byte as it was. Assumes nothing.
 use Prim.Native.Nat.{ℕ}
-use mathlib.Core.Path.{_≡_, refl, sym, ap, ap₂, _∙_}
+use mathlib.Core.Path.{_≡_, refl, sym, ap, _∙_}
 use mathlib.Core.Bool.{Bool, true, false}
 use mathlib.Core.List.{List}
 use lib.ListN.{length}
@@ -9,19 +9,15 @@ use native.Mathlib.Omega.{arith}
 use borrow.Author.Tests.{eq-eqb, eqb-true}
 use Rattle.cells.proofs.Tests.{first-of}
 use Rattle.cells.specs.Choice.{pick}
-use Rattle.cells.proofs.Numbers.{Bytes}
 use Rattle.pack.specs.declared.Shape.{Shape}
 use Rattle.held.specs.declared.Held.{Held}
 use Rattle.held.specs.declared.Kept.{Kept}
 use Rattle.held.specs.declared.Kept.the-variants.{Holds, Wrong}
 use Rattle.held.specs.Bytes.{heldBytes, encoded, encodes, decoded, kept, bit}
-use Rattle.held.proofs.Inverse.{encoded-kept}
-use Rattle.chain.specs.Step.{World, world}
+use Rattle.chain.specs.Step.{world}
 use Rattle.host.specs.declared.Answer.{Answer}
-use Rattle.host.specs.declared.Guarded.{Guarded}
-use Rattle.host.specs.declared.Guarded.the-variants.{Passes, Answers}
-use Rattle.host.specs.Host.{Hears, hears, answerNo, guardOf, guards, wrongHeld, starts, goes}
-use Rattle.box_export.specs.Calls.{Call, call, told, startKept, startCall, goKept, goCall}
+use Rattle.host.specs.Host.{Hears, hears, answerNo, wrongHeld, starts, goes}
+use Rattle.box_export.specs.Calls.{call, told, startKept, startCall, goKept, goCall}
 
 call-eq : {a b : ℕ} {v w s t c d : List ℕ} → a ≡ b → v ≡ w → s ≡ t → c ≡ d → call a v s c ≡ call b w t d
 call-eq p q r u = λ i. record { answer = p i; held = q i; storage = r i; cells = u i }

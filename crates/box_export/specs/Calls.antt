@@ -3,14 +3,11 @@
 use Prim.Native.Nat.{ℕ}
 use mathlib.Core.List.{List}
 use lib.ListN.{length}
-use lib.Dec.{eqb}
-use Rattle.cells.specs.Choice.{pick}
 use Rattle.pack.specs.declared.Shape.{Shape}
 use Rattle.held.specs.declared.Kept.{Kept}
 use Rattle.held.specs.declared.Kept.the-variants.{Holds, Wrong}
-use Rattle.held.specs.Held.{fresh}
-use Rattle.held.specs.Bytes.{heldBytes, encoded, kept}
-use Rattle.chain.specs.Step.{World, world}
+use Rattle.held.specs.Bytes.{encoded, kept}
+use Rattle.chain.specs.Step.{world}
 use Rattle.host.specs.Host.{Hears, answerNo, wrongHeld, starts, goes}
 
 pub record Call : Type 0 where

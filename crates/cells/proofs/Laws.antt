@@ -1,15 +1,13 @@
 -- Laws of lists and cells that every crate above cites. Assumes nothing.
-use Prim.Native.Nat.{ℕ, zero, suc, _+_, _-_, _*_, _/_, _%_, _<_, _≤_, min}
+use Prim.Native.Nat.{ℕ, zero, suc, _+_, _-_, _<_, _≤_}
 use mathlib.Core.Path.{_≡_, refl, sym, ap, ap₂, _∙_}
-use mathlib.Core.Bool.{Bool, true, false}
-use mathlib.Core.List.{List, [], _∷_, _++_, map, append-nil, append-assoc, map-append}
-use native.Mathlib.Numerals.{add-one}
+use mathlib.Core.List.{List, [], _∷_, _++_, append-nil, append-assoc}
 use native.Mathlib.Omega.{arith}
 use native.Mathlib.Nat.{add-zero}
-use lib.ListN.{length, getD, take, drop, set, replicate, length-append, length-take, length-drop, length-map, length-replicate, take-append-drop, List·getD-map, List·getD-append}
+use lib.ListN.{length, getD, take, drop, set, length-append, length-take, length-drop, length-map, take-append-drop, List·getD-map, List·getD-append}
 use lib.Seq.{length-take-le, take-append-seam, take-at, drop-at, drop-append-add, drop-drop, getD-append-add, drop-cons, set-at, append-snoc, getD-take, getD-drop}
 use Rattle.cells.specs.Bytes.{part, overlay, padded}
-use Rattle.cells.specs.Cells.{byteOf, cellOf, bytesOf, cellsOf}
+use Rattle.cells.specs.Cells.{byteOf, bytesOf}
 
 -- ---- bytes of cells
 

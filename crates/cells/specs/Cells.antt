@@ -1,11 +1,11 @@
 -- Document 01, "What the box stands in for": a track is 4,096 cells, each a number 256 k + b. k = 1 is a recorded byte b;
 -- from cell 7 on, 512 is an address marker; anything else is gap, written as 0. Assumes nothing.
 use Prim.Native.Nat.{ℕ, suc, _+_, _/_, _%_}
-use mathlib.Core.Bool.{Bool, true, false}
+use mathlib.Core.Bool.{Bool, true}
 use mathlib.Core.List.{List, [], _∷_, map}
 use lib.ListN.{getD}
 use lib.Dec.{leb, eqb}
-use Rattle.cells.specs.Choice.{pick, both}
+use Rattle.cells.specs.Choice.{both}
 
 abbrev pub trackCells : ℕ
 trackCells = 4096

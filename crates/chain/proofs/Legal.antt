@@ -1,14 +1,13 @@
 -- A step leaves a legal world legal: no command moves the head off the pack, and storage, track and pack keep their sizes.
 -- A line a command. Assumes nothing.
-use Prim.Native.Nat.{ℕ, _+_, _*_, _<_, _≤_, min}
+use Prim.Native.Nat.{ℕ, _+_, _≤_}
 use mathlib.Core.Path.{_≡_, refl, sym, ap, _∙_, subst}
 use mathlib.Core.Bool.{Bool, true, false, not}
-use mathlib.Core.List.{List, [], _∷_}
+use mathlib.Core.List.{List}
 use native.Mathlib.Omega.{arith}
-use lib.ListN.{length, getD, take, length-take}
-use lib.Dec.{eqb, ltb}
-use borrow.Author.Tests.{ltb-true}
-use Rattle.cells.specs.Choice.{pick, both}
+use lib.ListN.{length, getD, length-take}
+use lib.Dec.{ltb}
+use Rattle.cells.specs.Choice.{pick}
 use Rattle.cells.specs.Bytes.{part, overlay}
 use Rattle.cells.specs.Cells.{trackCells, marks}
 use Rattle.cells.proofs.Laws.{length-overlay, part-overlay}
@@ -23,16 +22,12 @@ use Rattle.words.specs.declared.Tested.{Tested}
 use Rattle.words.specs.declared.Tested.the-variants.{Obey, Jump, Bad}
 use Rattle.words.specs.declared.Status.{Status}
 use Rattle.words.specs.declared.Cause.{Cause}
-use Rattle.words.specs.Words.{tested}
 use Rattle.words.specs.Status.{stored, statusBytes, statusAt}
 use Rattle.words.proofs.Obeys.{TestedIn, tested-in}
-use Rattle.pack.specs.declared.Cylinder.{Cylinder}
-use Rattle.pack.specs.declared.Head.{Head}
 use Rattle.pack.specs.declared.Shape.{Shape}
 use Rattle.pack.specs.declared.Sought.{Sought}
 use Rattle.pack.specs.declared.Sought.the-variants as Sought
-use Rattle.pack.specs.Shapes.{seekTo, seekHead}
-use Rattle.pack.specs.Tracks.{Whole, On, startOf, trackAt, withTrack}
+use Rattle.pack.specs.Tracks.{Whole, startOf, trackAt, withTrack}
 use Rattle.pack.proofs.Laws.{length-track, start-inside}
 use Rattle.pack.proofs.Seeks.{SoughtOn, seek-to-on, seek-head-on}
 use Rattle.commands.specs.declared.Control.{Control}
@@ -45,7 +40,6 @@ use Rattle.hunt.proofs.Inside.{space-in}
 use Rattle.held.specs.declared.Selection.the-variants.{Nothing}
 use Rattle.held.specs.declared.Stands.{Stands}
 use Rattle.held.specs.declared.Orders.{Orders}
-use Rattle.held.specs.declared.Channel.{Channel}
 use Rattle.held.specs.declared.Held.{Held}
 use Rattle.held.specs.Held.{fresh, freshOrders, freshChannel, rested}
 use Rattle.outcome.specs.declared.Done.{Done}
@@ -54,7 +48,7 @@ use Rattle.outcome.specs.declared.Ending.the-variants.{Normal}
 use Rattle.outcome.specs.Outcome.{done, standing, sensing, placed, sought, ordered, after, checked}
 use Rattle.control.specs.Control.{Reaches, afterControl, noOp, senses, senseBytes, soughtAt, addressed, arrived, seeks, masked, masks, spaces, controls, puts}
 use Rattle.settle.specs.Settle.{goesOn, onward, stride, statusAfter, heldAfter, storageAfter}
-use Rattle.chain.specs.Act.{Acted, acted, built, unknown, obeys, acts}
+use Rattle.chain.specs.Act.{Acted, built, unknown, obeys, acts}
 use Rattle.chain.specs.Step.{World, world, under, stops, jumped, settled, obeyed, takes, step}
 use Rattle.chain.specs.Legal.{selectionFits, Ordered, Channeled, Standing, Legal}
 

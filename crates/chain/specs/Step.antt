@@ -1,6 +1,6 @@
 -- One command word, and an allowance of them. Assumes nothing.
 use Prim.Native.Nat.{ℕ, zero, suc}
-use mathlib.Core.Bool.{Bool, true}
+use mathlib.Core.Bool.{true}
 use mathlib.Core.List.{List}
 use Rattle.cells.specs.Choice.{pick}
 use Rattle.words.specs.declared.Word.{Word}

@@ -1,5 +1,5 @@
 -- The starred figures and the limits hold: each side computes. Assumes nothing.
-use mathlib.Core.Path.{_≡_, refl}
+use mathlib.Core.Path.{refl}
 use Rattle.cells.specs.Bytes.{numberFrom, part, overlay}
 use Rattle.areas.specs.Areas.{keyCells, recordCells, endBy, needed}
 use Rattle.room.specs.Room.{roomLeft, fits}

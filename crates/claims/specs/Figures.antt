@@ -2,9 +2,9 @@
 -- Assumes nothing.
 use Prim.Native.Nat.{ℕ, suc, _/_, _%_}
 use mathlib.Core.Path.{_≡_}
-use mathlib.Core.Bool.{Bool, true, false}
+use mathlib.Core.Bool.{true, false}
 use mathlib.Core.List.{List, [], _∷_, _++_}
-use lib.IntN.{ℤ, pos, negsuc}
+use lib.IntN.{pos, negsuc}
 use lib.ListN.{length, replicate}
 use Rattle.cells.specs.Bytes.{number, part, overlay}
 use Rattle.cells.specs.Cells.{trackCells}
@@ -18,10 +18,8 @@ use Rattle.words.specs.Words.{addressWord}
 use Rattle.words.specs.Status.{statusAt}
 use Rattle.pack.specs.declared.Cylinder.{Cylinder}
 use Rattle.pack.specs.declared.Shape.{Shape}
-use Rattle.pack.specs.declared.Sought.{Sought}
 use Rattle.pack.specs.declared.Sought.the-variants.{Fails}
 use Rattle.pack.specs.Shapes.{stands, seekTo, seekHead}
-use Rattle.compare.specs.declared.Compared.{Compared}
 use Rattle.compare.specs.declared.Compared.the-variants.{High}
 use Rattle.compare.specs.Compare.{compared}
 use Rattle.held.specs.declared.Stands.{Stands}

@@ -1,8 +1,8 @@
 -- Both sides of each limit of a pack, and room far past a track. Assumes nothing.
-use Prim.Native.Nat.{ℕ, _+_, _*_}
+use Prim.Native.Nat.{ℕ, _*_}
 use mathlib.Core.Path.{_≡_}
 use mathlib.Core.Bool.{Bool, true, false}
-use lib.IntN.{ℤ, negsuc}
+use lib.IntN.{negsuc}
 use Rattle.cells.specs.Cells.{trackCells}
 use Rattle.areas.specs.Areas.{endBy, needed}
 use Rattle.room.specs.Room.{roomLeft, fits}

@@ -4,11 +4,8 @@ use Prim.Native.Nat.{ℕ}
 use mathlib.Core.Bool.{Bool, true, false}
 use lib.Dec.{eqb}
 use Rattle.cells.specs.Choice.{pick}
-use Rattle.mask.specs.declared.Seeking.{Seeking}
 use Rattle.mask.specs.declared.Seeking.the-variants.{Seek, SeekCylinder, SeekHead}
-use Rattle.commands.specs.declared.How.{How}
 use Rattle.commands.specs.declared.How.the-variants.{IfEqual, IfHigh, IfEqualOrHigh}
-use Rattle.commands.specs.declared.Control.{Control}
 use Rattle.commands.specs.declared.Control.the-variants.{NoOp, SenseBytes, Seeks, SetMask, SpaceRecord}
 use Rattle.commands.specs.declared.Search.{Search}
 use Rattle.commands.specs.declared.Search.the-variants.{SearchHome, SearchId, SearchKey}

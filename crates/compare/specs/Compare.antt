@@ -1,6 +1,5 @@
 -- Document 01, "Commands": a search compares the first m bytes as unsigned numbers; high means the track's is higher. Assumes nothing.
 use Prim.Native.Nat.{ℕ, _+_, _≤_}
-use mathlib.Core.Bool.{Bool, true, false}
 use mathlib.Core.List.{List}
 use lib.ListN.{length}
 use lib.Dec.{ltb, eqb}

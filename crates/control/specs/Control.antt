@@ -6,7 +6,6 @@ use lib.ListN.{length, getD, take}
 use lib.Dec.{ltb}
 use Rattle.cells.specs.Choice.{pick}
 use Rattle.cells.specs.Bytes.{be16}
-use Rattle.rows.specs.declared.Row.{Row}
 use Rattle.rows.specs.declared.Row.the-variants.{BadMask, SecondMask, WrongBefore, SeekBarred, BadSeek}
 use Rattle.mask.specs.declared.Seeking.{Seeking}
 use Rattle.mask.specs.declared.Seeking.the-variants as Seeking

@@ -1,27 +1,25 @@
 -- What passes the refusals is legal, and what is legal passes them. Assumes nothing.
-use Prim.Native.Nat.{ℕ, _+_, _<_, _≤_}
-use mathlib.Core.Path.{_≡_, refl, sym, ap, _∙_, subst}
-use mathlib.Core.Bool.{Bool, true, false, false≢true}
+use Prim.Native.Nat.{ℕ}
+use mathlib.Core.Path.{_≡_, refl}
+use mathlib.Core.Bool.{Bool, true, false}
 use mathlib.Core.List.{List}
 use native.Mathlib.Omega.{arith}
 use lib.ListN.{length}
-use lib.Dec.{ltb, leb, eqb}
-use borrow.Author.Tests.{ltb-true, leb-true, eqb-true, lt-ltb, le-leb, eq-eqb}
-use Rattle.cells.specs.Choice.{pick, both}
-use Rattle.cells.specs.Cells.{trackCells, marks}
+use lib.Dec.{ltb, leb}
+use borrow.Author.Tests.{ltb-true, leb-true, eqb-true, lt-ltb, le-leb}
+use Rattle.cells.specs.Choice.{pick}
 use Rattle.cells.proofs.Tests.{first-of, second-of, both-of}
 use Rattle.mask.specs.Mask.{legal}
 use Rattle.pack.specs.declared.Shape.{Shape}
 use Rattle.pack.specs.Shapes.{mostCylinders, mostHeads, from1To, packFits, cylinderOn, headOn}
-use Rattle.pack.specs.Tracks.{Whole, On, trackAt}
+use Rattle.pack.specs.Tracks.{Whole}
 use Rattle.held.specs.declared.Stands.{Stands}
 use Rattle.held.specs.declared.Orders.{Orders}
 use Rattle.held.specs.declared.Channel.{Channel}
-use Rattle.chain.specs.Step.{World, world, under}
-use Rattle.chain.specs.Legal.{selectionFits, Ordered, Channeled, Standing, Legal}
+use Rattle.chain.specs.Step.{World}
+use Rattle.chain.specs.Legal.{Ordered, Channeled, Standing, Legal}
 use Rattle.host.specs.declared.Answer.{Answer}
 use Rattle.host.specs.declared.Answer.the-variants.{BadStorage, BadPack, BadHeld}
-use Rattle.host.specs.declared.Guarded.{Guarded}
 use Rattle.host.specs.declared.Guarded.the-variants.{Passes, Answers}
 use Rattle.host.specs.Host.{storageFits, standsFit, ordersFit, channelFits, heldFits, guardOf}
 

@@ -1,5 +1,5 @@
 -- Document 01, "What the host hears": the answers, the refusals in their order, a start, and going on. Assumes nothing.
-use Prim.Native.Nat.{ℕ, _+_, _≤_}
+use Prim.Native.Nat.{ℕ}
 use mathlib.Core.Bool.{Bool, true, false}
 use mathlib.Core.List.{List, [], _∷_}
 use lib.ListN.{length}
@@ -8,7 +8,6 @@ use Rattle.cells.specs.Choice.{pick, both}
 use Rattle.cells.specs.Bytes.{overlay}
 use Rattle.cells.specs.Cells.{trackCells, marks}
 use Rattle.mask.specs.Mask.{legal}
-use Rattle.words.specs.declared.Word.{Word}
 use Rattle.words.specs.declared.Begun.{Begun}
 use Rattle.words.specs.declared.Begun.the-variants.{Begins, Refused}
 use Rattle.words.specs.declared.Tested.{Tested}

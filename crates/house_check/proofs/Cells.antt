@@ -1,7 +1,7 @@
 -- Cells of an area: their bytes into the register one after another, what is clean, and the law on cells. Assumes nothing.
 use mathlib.Core.Path.{_≡_, refl, sym, ap, ap₂, _∙_, subst}
 use mathlib.Core.Bool.{Bool, true, false}
-use mathlib.Core.List.{List, [], _∷_, _++_, map}
+use mathlib.Core.List.{List, [], _∷_, _++_}
 use Prim.Native.Nat.{ℕ, zero, suc, _+_, _*_, _/_, _%_, _<_, _≤_}
 use native.Mathlib.Numerals.{add-one}
 use native.Mathlib.Omega.{arith}
@@ -10,12 +10,12 @@ use native.Mathlib.Decide.{ℕ-discrete}
 use borrow.Author.Tests.{eq-eqb, ne-eqb}
 use lib.ListN.{length, take, drop, getD, drop-of-length-le, length-append, length-map}
 use lib.Seq.{drop-cons, take-append-seam, getD-append-seam, getD-append-add}
-use Rattle.cells.specs.Choice.{pick, both}
-use Rattle.cells.specs.Cells.{byteOf, cellOf, isByte, bytesOf, cellsOf, allBytes}
+use Rattle.cells.specs.Choice.{both}
+use Rattle.cells.specs.Cells.{cellOf, bytesOf, cellsOf, allBytes}
 use Rattle.cells.proofs.Laws.{length-bytesOf, getD-bytesOf}
 use Rattle.cells.proofs.Marks.{both-never}
 use Rattle.cells.proofs.Numbers.{Bytes}
-use Rattle.house_check.specs.Check.{feed, bitOf, byteBits, bits, check}
+use Rattle.house_check.specs.Check.{feed, byteBits, bits, check}
 use Rattle.house_check.specs.Area.{Area, agrees, goodCells, sixteen, checked, laid, Burst, window}
 use Rattle.house_check.proofs.Window.{feed-lt}
 use Rattle.house_check.proofs.Bits.{bits-Bits}

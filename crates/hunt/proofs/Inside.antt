@@ -1,12 +1,11 @@
 -- What the hunt finds lies on the track: so a place after it is at most the track's end. Assumes nothing.
-use Prim.Native.Nat.{ℕ, zero, suc, _+_, _-_, _<_, _≤_}
-use mathlib.Core.Path.{_≡_, refl, sym, _∙_, subst}
+use Prim.Native.Nat.{ℕ, suc, _+_, _-_, _<_, _≤_}
+use mathlib.Core.Path.{_≡_, sym, _∙_, subst}
 use mathlib.Core.Bool.{Bool, true, false}
 use mathlib.Core.List.{List, [], _∷_}
 use native.Mathlib.Omega.{arith}
 use native.Mathlib.Decide.{decLt}
 use lib.ListN.{length, drop, length-drop, drop-of-length-le}
-use Rattle.cells.specs.Choice.{pick}
 use Rattle.cells.specs.Cells.{trackCells, marks}
 use Rattle.cells.proofs.Marks.{length-marks}
 use Rattle.hunt.specs.declared.Found.{Found}

@@ -4,7 +4,7 @@ use mathlib.Core.Bool.{Bool, true, false}
 use mathlib.Core.List.{List, [], _∷_}
 use lib.ListN.{getD}
 use lib.Dec.{eqb}
-use Rattle.cells.specs.Choice.{pick, both}
+use Rattle.cells.specs.Choice.{both}
 use Rattle.mask.specs.declared.Writing.{Writing}
 use Rattle.mask.specs.declared.Writing.the-variants.{HomeOrZero, Record, Update}
 use Rattle.mask.specs.declared.Seeking.{Seeking}

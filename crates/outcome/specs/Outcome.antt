@@ -1,6 +1,6 @@
 -- Document 01, "Where the head stands" and "Commands": what a command leaves with the unit, before the channel ends it. Assumes nothing.
 use Prim.Native.Nat.{ℕ}
-use mathlib.Core.Bool.{Bool, true, false}
+use mathlib.Core.Bool.{Bool, false}
 use Rattle.rows.specs.declared.Row.{Row}
 use Rattle.rows.specs.declared.Sense.{Sense}
 use Rattle.rows.specs.Rows.{sense, senseOf, movedBy}
@@ -10,7 +10,7 @@ use Rattle.held.specs.declared.Selection.{Selection}
 use Rattle.held.specs.declared.Stands.{Stands}
 use Rattle.held.specs.declared.Orders.{Orders}
 use Rattle.outcome.specs.declared.Ending.{Ending}
-use Rattle.outcome.specs.declared.Ending.the-variants.{Normal, Satisfied, Exception, Check}
+use Rattle.outcome.specs.declared.Ending.the-variants.{Check}
 use Rattle.outcome.specs.declared.Done.{Done}
 
 -- how it ended, bytes moved, bytes that the device wanted, whether length counts, and what is held then

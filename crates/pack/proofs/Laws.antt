@@ -1,9 +1,9 @@
 -- Laws of the pack: a track of it lies inside its cells, and a track that is lent on comes back in its place, every other cell as it was.
 -- Assumes nothing.
-use Prim.Native.Nat.{ℕ, zero, suc, _+_, _-_, _*_, _<_, _≤_}
-use mathlib.Core.Path.{_≡_, refl, sym, ap, ap₂, _∙_}
-use mathlib.Core.Bool.{Bool, true, false, false≢true}
-use mathlib.Core.List.{List, [], _∷_, _++_, append-assoc}
+use Prim.Native.Nat.{ℕ, suc, _+_, _-_, _*_, _<_, _≤_}
+use mathlib.Core.Path.{_≡_, sym, ap, ap₂, _∙_}
+use mathlib.Core.Bool.{Bool, true, false}
+use mathlib.Core.List.{List, _++_, append-assoc}
 use mathlib.Core.Logic.{_⊎_, ⊎-elim}
 use native.Mathlib.Nat.{mul-le-mul, suc-mul, mul-le-mul-right}
 use native.Mathlib.Omega.{arith}
@@ -12,9 +12,10 @@ use lib.Seq.{drop-drop}
 use lib.Dec.{eqb, leb}
 use borrow.Author.Tests.{leb-true}
 use borrow.Rule.Slice.PartMut.{putMid}
-use Rattle.cells.specs.Choice.{pick, both}
+use Rattle.cells.specs.Choice.{both}
 use Rattle.cells.specs.Bytes.{part, overlay}
 use Rattle.cells.specs.Cells.{trackCells}
+use Rattle.cells.proofs.Tests.{second-of}
 use Rattle.cells.proofs.Laws.{length-part, overlay-before, overlay-behind}
 use Rattle.pack.specs.declared.Cylinder.{Cylinder}
 use Rattle.pack.specs.declared.Head.{Head}
@@ -79,10 +80,6 @@ others-kept cells t a i l h o =
 
 pub up-to : (most n : ℕ) (b : Bool) → b ≡ true → b ≡ from1To most n → n ≤ most
 up-to most n b t e = leb-true n most (second-of (leb 1 n) (leb n most) (sym e ∙ t))
-  where
-    second-of : (x y : Bool) → both x y ≡ true → y ≡ true
-    second-of true y q = q
-    second-of false y q = absurd (false≢true q)
 
 module _ (g : Shape) (n : ℕ) (b : Bool) (e : b ≡ from1To mostCylinders (g .cylinders)) where
   pub bad-cylinders : b ≡ false → false ≡ packFits g n

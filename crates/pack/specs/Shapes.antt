@@ -1,14 +1,12 @@
 -- Document 01, "What the box stands in for": a pack may be lent with 1 to 203 cylinders and 1 to 10 heads; and
 -- "Commands", a seek's address. Assumes nothing.
 use Prim.Native.Nat.{ℕ, _*_}
-use mathlib.Core.Bool.{Bool, true, false}
+use mathlib.Core.Bool.{Bool}
 use lib.Dec.{ltb, leb, eqb}
 use Rattle.cells.specs.Choice.{pick, both}
 use Rattle.cells.specs.Cells.{trackCells}
-use Rattle.rows.specs.declared.Row.{Row}
 use Rattle.rows.specs.declared.Row.the-variants.{BadSeek}
 use Rattle.pack.specs.declared.Cylinder.{Cylinder}
-use Rattle.pack.specs.declared.Head.{Head}
 use Rattle.pack.specs.declared.Shape.{Shape}
 use Rattle.pack.specs.declared.Sought.{Sought}
 use Rattle.pack.specs.declared.Sought.the-variants.{Stands, Fails}

@@ -1,14 +1,14 @@
 -- Laws for the loops that record: one byte more, the check behind the bytes, one gap more. Assumes nothing.
-use Prim.Native.Nat.{ℕ, zero, suc, _+_, _-_, _*_, _/_, _%_, _<_, _≤_}
-use mathlib.Core.Path.{_≡_, refl, sym, ap, ap₂, _∙_, subst}
+use Prim.Native.Nat.{ℕ, zero, suc, _+_, _-_, _/_, _%_, _<_, _≤_}
+use mathlib.Core.Path.{_≡_, sym, ap, _∙_}
 use mathlib.Core.List.{List, [], _∷_, _++_, map, map-append, append-nil}
 use native.Mathlib.Numerals.{add-one}
 use native.Mathlib.Omega.{arith}
-use lib.ListN.{length, getD, take, drop, set, replicate, length-set, length-map, length-replicate, length-take, length-append}
+use lib.ListN.{length, getD, set, length-set, length-map}
 use lib.Seq.{sets-eq, take-suc-set, take-all, append-snoc}
 use Rattle.cells.specs.Bytes.{part, overlay, padded}
 use Rattle.cells.specs.Cells.{cellOf, bytesOf, cellsOf}
-use Rattle.cells.proofs.Laws.{length-overlay, overlay-snoc, overlay-append, part-overlay, set-overlay, length-padded, padded-snoc}
+use Rattle.cells.proofs.Laws.{overlay-snoc, overlay-append, part-overlay, length-padded, padded-snoc}
 use Rattle.cells.proofs.Numbers.{Bytes}
 use Rattle.house_check.specs.Check.{check}
 use Rattle.house_check.specs.Area.{sixteen, checked, laid}

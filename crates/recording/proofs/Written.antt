@@ -1,13 +1,13 @@
 -- What is recorded can be read: an area that was written is readable, and reading it returns its bytes. Assumes nothing.
 use Prim.Native.Nat.{ℕ, _+_, _≤_}
-use mathlib.Core.Path.{_≡_, refl, sym, ap, _∙_}
+use mathlib.Core.Path.{_≡_, sym, ap, _∙_}
 use mathlib.Core.Bool.{true}
-use mathlib.Core.List.{List, [], _∷_, _++_}
+use mathlib.Core.List.{List}
 use native.Mathlib.Omega.{arith}
 use lib.ListN.{length, take}
 use lib.Seq.{take-append-seam}
 use Rattle.cells.specs.Bytes.{part, overlay}
-use Rattle.cells.specs.Cells.{bytesOf, cellsOf}
+use Rattle.cells.specs.Cells.{bytesOf}
 use Rattle.cells.proofs.Laws.{part-overlay}
 use Rattle.cells.proofs.Numbers.{Bytes}
 use Rattle.house_check.specs.Check.{check}

@@ -1,10 +1,10 @@
 -- Document 01, "What lies on a track" and "Commands": an area is recorded with its check; missing bytes are zeros, surplus is not
 -- fetched; gaps are written as 0. Assumes nothing.
-use Prim.Native.Nat.{ℕ, _+_, _-_, _/_, _%_, _≤_}
-use mathlib.Core.List.{List, [], _∷_, _++_}
+use Prim.Native.Nat.{ℕ, _+_, _-_, _≤_}
+use mathlib.Core.List.{List, _∷_, _++_}
 use lib.ListN.{length, take, replicate}
 use Rattle.cells.specs.Bytes.{overlay, padded}
-use Rattle.cells.specs.Cells.{gap, cellsOf}
+use Rattle.cells.specs.Cells.{gap}
 use Rattle.house_check.specs.Area.{checkBytes, laid}
 
 -- an area of n bytes recorded from a cell on, of bytes that came from storage

@@ -5,7 +5,7 @@ use mathlib.Core.Path.{_≡_, refl, sym, ap, ap₂, _∙_, subst}
 use mathlib.Core.Bool.{Bool, true, false}
 use native.Mathlib.Nat.{add-zero, sub-zero}
 use native.Mathlib.Omega.{arith}
-use lib.IntN.{ℤ, pos, negsuc, subℕ, _+ℤ_, _-ℤ_, negℤ, +ℤ-assoc, negℤ-+ℤ, pos-+ℤ-pos}
+use lib.IntN.{ℤ, pos, subℕ, _+ℤ_, _-ℤ_, negℤ, +ℤ-assoc, negℤ-+ℤ, pos-+ℤ-pos}
 use lib.Signed.{mag, leZ}
 use lib.Dec.{ltb, leb}
 use borrow.Author.Tests.{ltb-true, ltb-false, le-ltb, le-leb, lt-leb}

@@ -1,22 +1,21 @@
 -- Laws of how the channel ends a command, by the tests that the code makes. Assumes nothing.
 use Prim.Native.Nat.{ℕ, _-_, _/_, _%_, _<_, _≤_}
-use mathlib.Core.Path.{_≡_, refl, sym, ap, ap₂, _∙_, subst}
+use mathlib.Core.Path.{_≡_, refl, sym, ap, _∙_, subst}
 use mathlib.Core.Bool.{Bool, true, false, not}
 use mathlib.Core.List.{List}
 use native.Mathlib.Omega.{arith}
 use lib.ListN.{length}
-use lib.Dec.{eqb, ltb}
+use lib.Dec.{ltb}
 use borrow.Author.Tests.{eq-eqb, ne-eqb, lt-ltb, le-ltb}
 use Rattle.cells.specs.Choice.{pick, both, either}
 use Rattle.words.specs.declared.Word.{Word}
 use Rattle.words.specs.declared.Status.{Status}
-use Rattle.words.specs.Words.{along, addresses, chains, suppresses}
+use Rattle.words.specs.Words.{chains, suppresses}
 use Rattle.words.specs.Status.{Storable, stored, statusFor}
 use Rattle.held.specs.declared.Channel.{Channel}
-use Rattle.held.specs.declared.Held.{Held}
 use Rattle.held.specs.Held.{rested}
 use Rattle.outcome.specs.declared.Done.{Done}
-use Rattle.settle.specs.Settle.{unitStatus, endsWell, stride, wrongLength, goesOn, onward, lengthStatus, statusAfter, heldAfter, storageAfter}
+use Rattle.settle.specs.Settle.{endsWell, stride, wrongLength, goesOn, onward, lengthStatus, statusAfter, heldAfter, storageAfter}
 
 module _ (w : Word) (d : Done) where
   -- the length that counts, by tests a, b, c, e

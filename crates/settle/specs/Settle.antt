@@ -4,13 +4,10 @@ use mathlib.Core.Bool.{Bool, true, false, not}
 use mathlib.Core.List.{List}
 use lib.Dec.{ltb}
 use Rattle.cells.specs.Choice.{pick, both, either}
-use Rattle.rows.specs.declared.Row.{Row}
 use Rattle.words.specs.declared.Word.{Word}
 use Rattle.words.specs.declared.Status.{Status}
-use Rattle.words.specs.Words.{along, wordBytes, chains, suppresses}
+use Rattle.words.specs.Words.{along, chains, suppresses}
 use Rattle.words.specs.Status.{stored, statusFor}
-use Rattle.held.specs.declared.Stands.{Stands}
-use Rattle.held.specs.declared.Orders.{Orders}
 use Rattle.held.specs.declared.Channel.{Channel}
 use Rattle.held.specs.declared.Held.{Held}
 use Rattle.held.specs.Held.{rested}

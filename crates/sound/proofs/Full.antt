@@ -1,12 +1,12 @@
 -- A track filled to room 0 is soundly written, whatever fills it: its data area is good by the law of what is laid, and no cell is left
 -- behind it. Assumes nothing.
 use Prim.Native.Nat.{ℕ, zero, suc, _+_, _-_, _<_, _≤_}
-use mathlib.Core.Path.{_≡_, refl, sym, ap, ap₂, _∙_, subst}
-use mathlib.Core.Bool.{Bool, true, false}
-use mathlib.Core.List.{List, [], _∷_, _++_}
+use mathlib.Core.Path.{_≡_, refl, sym, ap, _∙_}
+use mathlib.Core.Bool.{true}
+use mathlib.Core.List.{List, _++_}
 use native.Mathlib.Omega.{arith}
 use lib.Dec.{lit<}
-use lib.ListN.{length, getD, take, drop, replicate, length-append, length-replicate, getD-replicate, List·getD-eq-default}
+use lib.ListN.{length, getD, replicate, length-replicate, List·getD-eq-default}
 use lib.Seq.{take-all}
 use Rattle.cells.specs.Bytes.{part}
 use Rattle.cells.specs.Cells.{bytesOf, cellsOf, allBytes}
@@ -16,8 +16,8 @@ use Rattle.house_check.specs.Area.{agrees, goodCells, checked, laid}
 use Rattle.house_check.proofs.Cells.{length-laid, laid-good}
 use Rattle.areas.specs.Areas.{areaCells, readable, areaBytes, countArea, countsOf, countsAt, keyCells, keyArea, dataArea, recordCells, endBy}
 use Rattle.areas.specs.Flags.{flagOfZero, flagAfter}
-use Rattle.sound.specs.Sound.{Record, Records, none, more, Sound, endAt}
-use Rattle.sound.specs.Tracks.{filled, home, count, zeroth, fullHead, full}
+use Rattle.sound.specs.Sound.{Record, Records, none, more, Sound}
+use Rattle.sound.specs.Tracks.{home, count, zeroth, fullHead, full}
 
 -- a good data area of 4,054 bytes
 module _ (d : List ℕ) (long : length d ≡ 4056) (ok : goodCells 4054 d ≡ true) where

@@ -1,31 +1,24 @@
 -- The test is the predicate: a track that passes it is soundly written, and a soundly written track passes it. Why: the test makes the
 -- predicate's comparisons one by one, and no track has more records than cells. Assumes nothing.
-use Prim.Native.Nat.{ℕ, zero, suc, _+_, _-_, _*_, _<_, _≤_, max}
+use Prim.Native.Nat.{ℕ, zero, suc, _+_, _-_, _<_, _≤_}
 use native.Mathlib.Omega.{arith}
 use native.Mathlib.Decide.{decLt, ℕ-discrete}
 use mathlib.Core.Path.{_≡_, refl, sym, ap, ap₂, _∙_, subst}
 use mathlib.Core.Bool.{Bool, true, false, true≢false, false≢true}
 use mathlib.Core.List.{List, [], _∷_}
-use lib.ListN.{length, getD, drop, drop-of-length-le, List·getD-eq-default}
-use lib.Seq.{getD-drop, drop-cons}
+use lib.ListN.{length, getD, drop, List·getD-eq-default}
+use lib.Seq.{getD-drop}
 use lib.Dec.{eqb}
 use borrow.Author.Tests.{eqb-true, ne-eqb, eq-eqb}
 use Rattle.cells.specs.Choice.{pick, both, either}
-use Rattle.cells.specs.Cells.{trackCells, marker, gap}
+use Rattle.cells.specs.Cells.{trackCells}
+use Rattle.cells.proofs.Tests.{first-of, second-of}
 use Rattle.areas.specs.Areas.{homeArea, zeroFirst, countArea, keyArea, dataArea, readable, areaBytes, countsAt, recordCells, endBy}
 use Rattle.areas.specs.Flags.{flagOfZero, flagAfter}
 use Rattle.sound.specs.Sound.{homeFlag, flagAt, endAt, Record, Records, none, more, Sound}
 use Rattle.sound.specs.Test.{allGaps, oneZero, recordOk, recordsOk, soundly}
 
 -- ---- choices
-
-pub first-of : (a b : Bool) → both a b ≡ true → a ≡ true
-first-of true b e = refl
-first-of false b e = absurd (false≢true e)
-
-pub second-of : (a b : Bool) → both a b ≡ true → b ≡ true
-second-of true b e = e
-second-of false b e = absurd (false≢true e)
 
 other : (a b : Bool) → either a b ≡ true → a ≡ false → b ≡ true
 other true b e f = absurd (true≢false f)

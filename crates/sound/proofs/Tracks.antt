@@ -4,7 +4,7 @@ use mathlib.Core.Path.{_≡_, refl, sym, ap, _∙_}
 use mathlib.Core.Bool.{Bool, true, false, not, true≢false}
 use mathlib.Core.List.{List, [], _∷_, List·Memᴰ, List·Memᴰ·head, List·Memᴰ·tail, List·Memᴰ·not-nil}
 use borrow.Author.Tests.{not-true}
-use Rattle.cells.specs.Choice.{pick, both}
+use Rattle.cells.specs.Choice.{pick}
 use Rattle.cells.specs.Bytes.{part}
 use Rattle.cells.specs.Cells.{bytesOf, cellsOf, allBytes}
 use Rattle.house_check.specs.Check.{step, feed, byteBits, bits, check}
@@ -14,7 +14,8 @@ use Rattle.areas.specs.Flags.{flagOfZero, flagAfter}
 use Rattle.sound.specs.Sound.{Sound}
 use Rattle.sound.specs.Test.{allGaps, oneZero, recordOk, recordsOk, soundly, each}
 use Rattle.sound.specs.Tracks.{filled, home, count, zeroth, alone, keyed, recorded, right, nearMisses}
-use Rattle.sound.proofs.Test.{first-of, second-of, soundly-sound, sound-soundly}
+use Rattle.sound.proofs.Test.{soundly-sound, sound-soundly}
+use Rattle.cells.proofs.Tests.{first-of, second-of}
 
 good : each true (alone ∷ keyed ∷ right ∷ []) ≡ true
 unfolding each alone keyed recorded right filled home count zeroth allGaps oneZero recordOk recordsOk soundly flagOfZero flagAfter areaCells readable areaBytes countsOf countsAt keyCells keyArea dataArea recordCells endBy agrees goodCells checked laid step feed byteBits bits check bytesOf cellsOf allBytes part

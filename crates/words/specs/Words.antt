@@ -1,6 +1,6 @@
 -- Document 01, "Channel words": the address word, command words, program checks in their order. Assumes nothing.
 use Prim.Native.Nat.{ℕ, _+_, _/_, _%_}
-use mathlib.Core.Bool.{Bool, true, false}
+use mathlib.Core.Bool.{Bool}
 use mathlib.Core.List.{List}
 use lib.ListN.{length, getD}
 use lib.Dec.{ltb, leb, eqb}
@@ -9,7 +9,6 @@ use Rattle.cells.specs.Bytes.{be16, be24}
 use Rattle.words.specs.declared.Word.{Word}
 use Rattle.words.specs.declared.Begun.{Begun}
 use Rattle.words.specs.declared.Begun.the-variants.{Begins, Refused}
-use Rattle.words.specs.declared.Cause.{Cause}
 use Rattle.words.specs.declared.Cause.the-variants.{Place, TicAfterTic, Flags, NoCount, Code, Area}
 use Rattle.words.specs.declared.Tested.{Tested}
 use Rattle.words.specs.declared.Tested.the-variants.{Obey, Jump, Bad}

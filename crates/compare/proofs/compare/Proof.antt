@@ -1,9 +1,8 @@
 -- `compare::compare` meets its contract. The invariant: the bytes passed are the same and came to one number, and what is left to
 -- compare after them stands for the whole. Assumes nothing.
-use Prim.Native.Nat.{ℕ, _+_, _-_, _*_, _≤_}
+use Prim.Native.Nat.{ℕ, _-_, _≤_}
 use mathlib.Core.Path.{_≡_, sym, _∙_}
 use native.Mathlib.Omega.{arith}
-use lib.ListN.{getD}
 use Rattle.compare.specs.Compare.{comparedBytes}
 use Rattle.compare.proofs.Laws.{rest, rest-all, rest-none, rest-low, rest-high, rest-next}
 use borrow.Author.Needs.{needs}

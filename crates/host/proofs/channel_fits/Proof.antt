@@ -1,7 +1,6 @@
 -- `host::channel_fits` meets its contract: it makes the model's tests. Assumes nothing.
 use Rattle.cells.proofs.Tests.{tests}
 use Rattle.host.specs.Host.{channelFits}
-use borrow.Author.Needs.{needs}
 use Rattle.host.proofs.channel_fits.Statement.{statement}
 use Rattle.host.proofs.channel_fits.Tie as tie
 

@@ -1,11 +1,9 @@
 -- `house_check::check_of` meets its contract. The invariant: the register, with the cells that are left, comes to the whole check.
 -- Assumes nothing.
 use mathlib.Core.Path.{_≡_, refl, ap, sym, _∙_}
-use mathlib.Core.List.{List, []}
-use Prim.Native.Nat.{ℕ, suc, _+_, _-_, _≤_}
-use native.Mathlib.Numerals.{add-one}
+use Prim.Native.Nat.{_-_, _≤_}
 use native.Mathlib.Omega.{arith}
-use lib.ListN.{length, drop, getD, drop-of-length-le}
+use lib.ListN.{length}
 use borrow.Author.Needs.{needs}
 use Rattle.cells.specs.Cells.{bytesOf}
 use Rattle.house_check.specs.Check.{check}

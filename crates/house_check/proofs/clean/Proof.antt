@@ -4,7 +4,6 @@ use mathlib.Core.Path.{_≡_, refl, sym, ap, _∙_}
 use Prim.Native.Nat.{_-_, _≤_}
 use native.Mathlib.Omega.{arith}
 use lib.ListN.{length}
-use Rattle.cells.specs.Cells.{bytesOf, allBytes}
 use Rattle.house_check.specs.Check.{check}
 use Rattle.house_check.proofs.Cells.{left, cleanFrom, clean-next, clean-stop, clean-end}
 use borrow.Author.Needs.{needs}

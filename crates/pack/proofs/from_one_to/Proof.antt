@@ -1,6 +1,5 @@
 -- `pack::from_one_to` meets its contract: it makes the model's tests. Assumes nothing.
 use Rattle.cells.proofs.Tests.{tests}
-use borrow.Author.Needs.{needs}
 use Rattle.pack.proofs.from_one_to.Statement.{statement}
 use Rattle.pack.proofs.from_one_to.Tie as tie
 

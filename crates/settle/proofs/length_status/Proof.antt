@@ -1,5 +1,4 @@
 -- `settle::length_status` meets its contract, by the test of length. Assumes nothing.
-use Prim.Native.Nat.{ℕ}
 use mathlib.Core.Path.{sym, ap}
 use mathlib.Core.Bool.{Bool}
 use Rattle.cells.specs.Choice.{pick}
