@@ -1,0 +1,548 @@
+// A go of 65,535 No-op command words against a plain loop in Rust: the same results, and the time of each; the stack that
+// a go uses; what a refusal costs. `bench/run --help` says more.
+use poplar::{Answer, Held, Shape, HELD_SIZE, TRACK_CELLS};
+use std::arch::asm;
+use std::hint::black_box;
+use std::process::ExitCode;
+use std::thread;
+use std::time::Instant;
+
+const WORDS: usize = 65_535;
+const FIRST: usize = 256;
+const STORAGE: usize = FIRST + 8 * WORDS;
+const STATUS: std::ops::Range<usize> = 64..72;
+
+const TRACK: Shape = Shape {
+    cylinders: 1,
+    heads: 1,
+};
+const FULL: Shape = Shape {
+    cylinders: 203,
+    heads: 10,
+};
+
+// Odd, so that a median is a time that was measured, and a multiple of 3, so that each goes first equally often.
+const ROUNDS: usize = 201;
+const WANTED: f64 = 2.0;
+
+// A refusal is too short to be timed alone.
+const REFUSALS: usize = 10_000;
+
+const PAINTED: usize = 64 * 1024;
+const STACK: usize = 256 * 1024;
+
+const MODULUS: u32 = 1 << 24;
+const FLAG_CHAIN: u8 = 0x40;
+const FLAG_LENGTH: u8 = 0x20;
+const NO_OP: u8 = 0x03;
+
+fn word(code: u8, address: u32, flags: u8, count: u16) -> [u8; 8] {
+    let [_, a, b, c] = address.to_be_bytes();
+    let [high, low] = count.to_be_bytes();
+    [code, a, b, c, flags, 0, high, low]
+}
+
+// Storage of so many bytes with these words from FIRST on, and the address word that names them, with key 5.
+fn storage_with(bytes: usize, words: impl Iterator<Item = [u8; 8]>) -> Vec<u8> {
+    let mut storage = vec![0xE7; bytes];
+    storage[72..76].copy_from_slice(&(0x5000_0000 + FIRST as u32).to_be_bytes());
+    for (i, word) in words.enumerate() {
+        storage[FIRST + 8 * i..][..8].copy_from_slice(&word);
+    }
+    storage
+}
+
+fn no_ops(n: usize) -> impl Iterator<Item = [u8; 8]> {
+    (1..=n).map(move |i| word(NO_OP, 0, if i < n { FLAG_CHAIN } else { 0 }, 1))
+}
+
+// What a chain of No-ops and TICs changes in a held state.
+struct Chain {
+    going: bool,
+    key: u8,
+    after_tic: bool,
+    before: u8,
+    whole: bool,
+    tally: u8,
+    selection: Option<u16>,
+    next: u32,
+}
+
+impl Chain {
+    fn of(held: &[u8; HELD_SIZE]) -> Chain {
+        Chain {
+            going: held[0] == 1,
+            key: held[1],
+            after_tic: held[6] == 1,
+            before: held[7],
+            whole: held[8] == 1,
+            tally: held[9],
+            selection: (held[10] != 0).then_some(u16::from_be_bytes([held[12], held[13]])),
+            next: u32::from_be_bytes([held[20], held[21], held[22], held[23]]),
+        }
+    }
+
+    fn put(&self, held: &mut [u8; HELD_SIZE]) {
+        if !self.going {
+            // The mask goes with the chain.
+            held[1..4].fill(0);
+        }
+        held[0] = u8::from(self.going);
+        held[6] = u8::from(self.after_tic);
+        held[7] = self.before;
+        held[8] = u8::from(self.whole);
+        held[9] = self.tally;
+        held[10] = if self.selection.is_some() { 2 } else { 0 };
+        held[12..14].copy_from_slice(&self.selection.unwrap_or(0).to_be_bytes());
+        held[20..24].copy_from_slice(&self.next.to_be_bytes());
+    }
+
+    // The chain's end.
+    fn end(&mut self, storage: &mut [u8], unit: u8, channel: u8, left: u16) {
+        let [_, a, b, c] = ((self.next + 8) % MODULUS).to_be_bytes();
+        let [high, low] = left.to_be_bytes();
+        storage[STATUS].copy_from_slice(&[self.key * 16, a, b, c, unit, channel, high, low]);
+        *self = Chain {
+            going: false,
+            key: 0,
+            after_tic: false,
+            before: 0,
+            whole: false,
+            tally: 0,
+            selection: None,
+            next: 0,
+        };
+    }
+
+    // One word; false for a command that is not built here.
+    fn step(&mut self, storage: &mut [u8]) -> bool {
+        let at = self.next as usize;
+        if at % 8 != 0 || storage.len() < at + 8 {
+            self.end(storage, 0, 0x20, 0);
+            return true;
+        }
+        let word = &storage[at..at + 8];
+        let code = word[0];
+        let address = u32::from_be_bytes([0, word[1], word[2], word[3]]);
+        let flags = word[4];
+        let count = u16::from_be_bytes([word[6], word[7]]);
+        if code % 16 == 8 {
+            if self.after_tic {
+                self.end(storage, 0, 0x20, 0);
+            } else {
+                self.after_tic = true;
+                self.next = address;
+            }
+            return true;
+        }
+        if flags & !(FLAG_CHAIN | FLAG_LENGTH) != 0
+            || count == 0
+            || code % 16 == 0
+            || storage.len() < address as usize + usize::from(count)
+        {
+            self.end(storage, 0, 0x20, 0);
+            return true;
+        }
+        if code != NO_OP {
+            return false;
+        }
+        self.before = NO_OP;
+        self.whole = false;
+        self.tally = 0;
+        self.selection = None;
+        if flags & FLAG_CHAIN == 0 {
+            self.end(storage, 0x0C, 0, count);
+            return true;
+        }
+        self.after_tic = false;
+        self.next = (self.next + 8) % MODULUS;
+        true
+    }
+}
+
+// The plain loop. None where it met a command that is not built here.
+#[inline(never)]
+fn plain(held: &mut [u8; HELD_SIZE], storage: &mut [u8], allowance: u16) -> Option<Answer> {
+    let mut chain = Chain::of(held);
+    let mut left = allowance;
+    while left > 0 && chain.going {
+        if !chain.step(storage) {
+            return None;
+        }
+        left -= 1;
+    }
+    chain.put(held);
+    Some(if chain.going {
+        Answer::NotEnded
+    } else {
+        Answer::Ended
+    })
+}
+
+// A box with its chain started: what a go begins with.
+struct Started {
+    held: Held,
+    storage: Vec<u8>,
+}
+
+fn started(storage: Vec<u8>, cells: &mut [u16], shape: Shape) -> Result<Started, String> {
+    let mut begun = Started {
+        held: Held::fresh(),
+        storage,
+    };
+    match poplar::start(&mut begun.held, &mut begun.storage, cells, shape) {
+        Answer::NotEnded => Ok(begun),
+        answer => Err(format!("start answers {answer:?}")),
+    }
+}
+
+// What a go leaves. The rest of storage is compared too, by the caller.
+#[derive(Debug, PartialEq)]
+struct Left {
+    answer: Option<Answer>,
+    held: [u8; HELD_SIZE],
+    status: [u8; 8],
+}
+
+fn left(answer: Option<Answer>, held: &[u8; HELD_SIZE], storage: &[u8]) -> Left {
+    Left {
+        answer,
+        held: *held,
+        status: storage[STATUS].try_into().unwrap(),
+    }
+}
+
+fn same(what: &str, name: &str, proved: &Left, other: &Left) -> Result<(), String> {
+    if proved == other {
+        return Ok(());
+    }
+    Err(format!(
+        "{what}: results differ: proved {proved:02X?}, {name} {other:02X?}"
+    ))
+}
+
+fn packs() -> [(Shape, Vec<u16>); 2] {
+    [TRACK, FULL].map(|shape| (shape, vec![0; shape.cells() as usize]))
+}
+
+// One chain, for one allowance, on both packs and by the plain loop: what it leaves.
+fn agreed(
+    what: &str,
+    storage: &[u8],
+    packs: &mut [(Shape, Vec<u16>); 2],
+    allowance: u16,
+) -> Result<Left, String> {
+    let what = &format!("{what}, {allowance} words");
+    let mut all = Vec::new();
+    for (shape, cells) in packs {
+        let mut begun = started(storage.to_vec(), cells, *shape)?;
+        let mut plain_begun = (*begun.held.bytes(), begun.storage.clone());
+        let answer = poplar::go(
+            &mut begun.held,
+            &mut begun.storage,
+            cells,
+            *shape,
+            allowance,
+        );
+        let proved = left(Some(answer), begun.held.bytes(), &begun.storage);
+        let answer = plain(&mut plain_begun.0, &mut plain_begun.1, allowance);
+        let other = left(answer, &plain_begun.0, &plain_begun.1);
+        same(what, "plain", &proved, &other)?;
+        if begun.storage != plain_begun.1 {
+            return Err(format!("{what}: storage differs outside the status word"));
+        }
+        all.push(proved);
+    }
+    same(what, "on a full pack", &all[0], &all[1])?;
+    Ok(all.swap_remove(0))
+}
+
+// Chains after a first No-op: at each test of a word, one word that it stops and one beside it that it lets through.
+fn chains() -> Vec<(&'static str, Vec<[u8; 8]>)> {
+    const BYTES: u32 = 1024;
+    let tic = |to: u32| word(0x08, to, 0, 0);
+    let at = |i: u32| FIRST as u32 + 8 * i;
+    let no_op = word(NO_OP, 0, FLAG_CHAIN, 1);
+    let last = word(NO_OP, 0, 0, 1);
+    vec![
+        ("a word off a multiple of 8", vec![tic(at(2) + 4), last]),
+        (
+            "the last word that fits",
+            [vec![tic(BYTES - 8)], vec![no_op; 94]].concat(),
+        ),
+        ("a word beyond storage", vec![tic(BYTES), last]),
+        ("a word at the last address", vec![tic(MODULUS - 8), last]),
+        ("a TIC", vec![tic(at(3)), no_op, last]),
+        ("a TIC to itself", vec![tic(at(1)), last]),
+        (
+            "a TIC to a TIC",
+            vec![tic(at(3)), no_op, tic(at(4)), no_op, last],
+        ),
+        ("flag 80", vec![word(NO_OP, 0, 0x80, 1), last]),
+        ("flag 10", vec![word(NO_OP, 0, 0x50, 1), last]),
+        ("flag 20", vec![word(NO_OP, 0, 0x60, 1), last]),
+        ("count 0", vec![word(NO_OP, 0, 0x40, 0), last]),
+        ("code 10", vec![word(0x10, 0, 0x40, 1), last]),
+        ("code F8", vec![word(0xF8, at(2), 0xFF, 1), last]),
+        (
+            "an area beyond storage",
+            vec![word(NO_OP, BYTES - 7, 0x40, 8), last],
+        ),
+        (
+            "an area at the end",
+            vec![word(NO_OP, BYTES - 8, 0x40, 8), last],
+        ),
+        ("a count left", vec![word(NO_OP, 0, 0x20, 0x0123)]),
+    ]
+}
+
+fn compare() -> Result<(), String> {
+    let mut packs = packs();
+    let mut compared = 0;
+    let storage = storage_with(STORAGE, no_ops(WORDS));
+    for allowance in [0, 1, 2, 1000, 65_534, 65_535] {
+        let left = agreed("No-ops", &storage, &mut packs, allowance)?;
+        let wanted = if usize::from(allowance) < WORDS {
+            Answer::NotEnded
+        } else {
+            Answer::Ended
+        };
+        if left.answer != Some(wanted) {
+            return Err(format!(
+                "No-ops, {allowance} words: the answer is {:?}",
+                left.answer
+            ));
+        }
+        compared += 1;
+    }
+    for (what, words) in chains() {
+        let first = word(NO_OP, 0, FLAG_CHAIN, 1);
+        let storage = storage_with(1024, std::iter::once(first).chain(words));
+        for allowance in [1, 2, 3, 4, 5, 200] {
+            agreed(what, &storage, &mut packs, allowance)?;
+            compared += 1;
+        }
+    }
+    println!(
+        "go: {compared} results of proved, proved on a full pack and plain compared: all the same"
+    );
+    Ok(())
+}
+
+fn median(mut times: Vec<f64>) -> f64 {
+    times.sort_by(f64::total_cmp);
+    times[times.len() / 2]
+}
+
+// One go of all the words on storage that is as it was: microseconds, and what it leaves.
+fn timed(
+    by_plain: bool,
+    shape: Shape,
+    cells: &mut [u16],
+    storage: &mut Vec<u8>,
+) -> Result<(f64, Left), String> {
+    storage[STATUS].fill(0xE7);
+    let mut begun = started(std::mem::take(storage), cells, shape)?;
+    let held = black_box(&mut begun.held);
+    let lent = black_box(&mut begun.storage[..]);
+    let mut bytes = *held.bytes();
+    let start = Instant::now();
+    let answer = if by_plain {
+        plain(&mut bytes, lent, WORDS as u16)
+    } else {
+        Some(poplar::go(held, lent, cells, shape, WORDS as u16))
+    };
+    let us = start.elapsed().as_secs_f64() * 1e6;
+    if !by_plain {
+        bytes = *held.bytes();
+    }
+    let result = left(answer, &bytes, lent);
+    *storage = begun.storage;
+    Ok((us, result))
+}
+
+fn measure() -> Result<(), String> {
+    const NAMES: [&str; 3] = ["proved, 1 track", "proved, full pack", "plain"];
+    let mut packs = packs();
+    let as_laid = storage_with(STORAGE, no_ops(WORDS));
+    let mut storage = as_laid.clone();
+    let mut times = [const { Vec::new() }; 3];
+    // The first round warms up and is not counted.
+    for round in 0..=ROUNDS {
+        let mut results = [const { None }; 3];
+        for turn in 0..3 {
+            let i = (round + turn) % 3;
+            let (shape, cells) = &mut packs[i % 2];
+            let (us, result) = timed(i == 2, *shape, cells, &mut storage)?;
+            if round > 0 {
+                times[i].push(us);
+            }
+            results[i] = Some(result);
+        }
+        let [Some(proved), Some(full), Some(other)] = results else {
+            unreachable!()
+        };
+        let what = &format!("round {round}");
+        same(what, NAMES[1], &proved, &full)?;
+        same(what, NAMES[2], &proved, &other)?;
+        if proved.answer != Some(Answer::Ended) {
+            return Err(format!("{what}: the answer is {:?}", proved.answer));
+        }
+        storage[STATUS].copy_from_slice(&as_laid[STATUS]);
+        if storage != as_laid {
+            return Err(format!("{what}: storage differs outside the status word"));
+        }
+    }
+    let medians = times.map(median);
+    println!("go of {WORDS} No-op words, {ROUNDS} rounds in turn, results all the same");
+    println!("{:<20} {:>9} {:>9}", "", "median us", "ns / word");
+    for (name, us) in NAMES.iter().zip(medians) {
+        println!("{name:<20} {us:>9.1} {:>9.2}", us * 1e3 / WORDS as f64);
+    }
+    let ratio = medians[0] / medians[2];
+    println!("ratio proved / plain: {ratio:.2} (wanted: at most {WANTED:.1})");
+    Ok(())
+}
+
+// What a go of a started chain with a bad key costs: refusal 4, the last one before the chain.
+fn refusals() -> Result<(), String> {
+    let mut packs = packs();
+    let mut storage = storage_with(FIRST + 8, no_ops(1));
+    let mut helds = Vec::new();
+    for (shape, cells) in &mut packs {
+        let begun = started(storage.clone(), cells, *shape)?;
+        let mut bytes = *begun.held.bytes();
+        bytes[1] = 16;
+        helds.push(Held::from_bytes(bytes));
+    }
+    let mut times = [const { Vec::new() }; 2];
+    for round in 0..=ROUNDS {
+        for turn in 0..2 {
+            let i = (round + turn) % 2;
+            let (shape, cells) = &mut packs[i];
+            let held = &mut helds[i];
+            let mut refused = 0;
+            let start = Instant::now();
+            for _ in 0..REFUSALS {
+                let answer = poplar::go(black_box(held), &mut storage, cells, *shape, 1);
+                refused += usize::from(answer == Answer::BadHeld);
+            }
+            let ns = start.elapsed().as_secs_f64() * 1e9 / REFUSALS as f64;
+            if refused != REFUSALS {
+                return Err(format!("{refused} of {REFUSALS} bad keys refused"));
+            }
+            if round > 0 {
+                times[i].push(ns);
+            }
+        }
+    }
+    let [track, full] = times.map(median);
+    println!("refusal of a bad key: {track:.1} ns on 1 track, {full:.1} ns on a full pack");
+    Ok(())
+}
+
+#[inline(always)]
+fn stack_pointer() -> usize {
+    let here: usize;
+    // It only reads the register.
+    unsafe { asm!("mov {}, rsp", out(reg) here, options(nomem, nostack, preserves_flags)) };
+    here
+}
+
+// Painting ends so far under `top`: under the frame of `paint` and the 128 bytes below it that a function may use.
+const MARGIN: usize = 256;
+
+#[inline(never)]
+fn paint(top: usize, pattern: u8) {
+    assert!(top - MARGIN + 128 <= stack_pointer());
+    for at in top - PAINTED..top - MARGIN {
+        // It is of this thread's stack, which is longer, and no frame in use reaches so low.
+        unsafe { (at as *mut u8).write_volatile(pattern) };
+    }
+}
+
+// How far under `top` the lowest byte is that is painted no more, or MARGIN if all are.
+#[inline(never)]
+fn deepest(top: usize, pattern: u8) -> usize {
+    // Written by `paint`, and still of this thread's stack.
+    let kept = |at: usize| unsafe { (at as *const u8).read_volatile() } == pattern;
+    let changed = (top - PAINTED..top - MARGIN).find(|&at| !kept(at));
+    top - changed.unwrap_or(top - MARGIN)
+}
+
+// The stack that one go takes under its caller, the wrapper's with it.
+fn stack_over(pattern: u8, storage: &[u8]) -> Result<usize, String> {
+    let mut cells = vec![0; TRACK_CELLS];
+    let mut begun = started(storage.to_vec(), &mut cells, TRACK)?;
+    let top = stack_pointer();
+    paint(top, pattern);
+    let answer = poplar::go(
+        &mut begun.held,
+        &mut begun.storage,
+        &mut cells,
+        TRACK,
+        WORDS as u16,
+    );
+    let deep = deepest(top, pattern);
+    if answer != Answer::Ended {
+        return Err(format!("the stack's go answers {answer:?}"));
+    }
+    if deep == PAINTED {
+        return Err(format!("a go uses {PAINTED} bytes of stack or more"));
+    }
+    Ok(deep)
+}
+
+// Every control command once. The six bytes at 160 are a seek's address and a mask; the last ends in a Unit Check.
+fn controls() -> Vec<u8> {
+    const AREA: u32 = 160;
+    let words = [
+        (0x03, 1),
+        (0x04, 6),
+        (0x1F, 1),
+        (0x07, 6),
+        (0x0B, 6),
+        (0x1B, 6),
+        (0x0F, 1),
+    ];
+    let words = words.map(|(code, count)| {
+        let at = if code == 0x04 { AREA + 8 } else { AREA };
+        word(code, at, FLAG_CHAIN, count)
+    });
+    let mut storage = storage_with(1024, words.into_iter());
+    storage[AREA as usize..][..6].fill(0);
+    storage
+}
+
+// The most of two chains, each over two patterns: a byte that is stored may be the one that was painted.
+fn stack() -> Result<(), String> {
+    let measured = thread::Builder::new().stack_size(STACK).spawn(|| {
+        let mut most = 0;
+        for storage in [storage_with(STORAGE, no_ops(WORDS)), controls()] {
+            for pattern in [0xA5, 0x5A] {
+                most = most.max(stack_over(pattern, &storage)?);
+            }
+        }
+        Ok(most)
+    });
+    let thread = measured.map_err(|error| format!("no thread: {error}"))?;
+    let most: Result<usize, String> = thread.join().map_err(|_| "the thread of the stack ended")?;
+    println!("stack used by go: {} bytes", most?);
+    Ok(())
+}
+
+fn main() -> ExitCode {
+    let only_compare = std::env::args().any(|word| word == "--compare");
+    let done = if only_compare {
+        compare()
+    } else {
+        measure().and_then(|()| stack()).and_then(|()| refusals())
+    };
+    match done {
+        Ok(()) => ExitCode::SUCCESS,
+        Err(difference) => {
+            eprintln!("bench: {difference}");
+            ExitCode::from(1)
+        }
+    }
+}
