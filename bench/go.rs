@@ -84,7 +84,7 @@ impl Chain {
 
     fn put(&self, held: &mut [u8; HELD_SIZE]) {
         if !self.going {
-            // The mask goes with the chain.
+            // The key and the mask go with the chain.
             held[1..4].fill(0);
         }
         held[0] = u8::from(self.going);

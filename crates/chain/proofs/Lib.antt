@@ -2,3 +2,4 @@
 pub mod Legal
 pub mod Runs
 pub mod Laws
+pub mod Strokes

@@ -1,4 +1,5 @@
--- The model of a chain: one dispatch, one word after another, and what a held state must be for it.
+-- The model of a chain: one dispatch, one word after another, what a held state must be for it, and No-ops in one stroke.
 pub mod Act
 pub mod Step
 pub mod Legal
+pub mod Stroke

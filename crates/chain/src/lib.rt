@@ -4,6 +4,7 @@ use commands::Control;
 use held::Channel;
 use held::Held;
 use held::Orders;
+use held::Selection;
 use held::Stands;
 use outcome::Done;
 use pack::Shape;
@@ -18,10 +19,13 @@ ghost use lib.ListN.{length};
 ghost use Rattle.cells.specs.Bytes.{overlay};
 ghost use Rattle.cells.specs.Cells.{marks};
 ghost use Rattle.hunt.specs.Hunt.{Whole};
+ghost use mathlib.Core.Bool.{true, false};
+ghost use Rattle.words.specs.Words.{tested};
 ghost use Rattle.control.specs.Control.{Reaches, controls, puts};
 ghost use Rattle.chain.specs.Act.{acted, built, obeys, acts};
 ghost use Rattle.chain.specs.Step.{world, jumped, stops, obeyed, step, run};
 ghost use Rattle.chain.specs.Legal.{Legal};
+ghost use Rattle.chain.specs.Stroke.{passes, passing, passed, Passed};
 
 // Which commands are built.
 fn built(c: Command) -> Command
@@ -147,6 +151,89 @@ pub fn step(g: Shape, h: Held, storage: &mut [u8], cells: &mut [u16]) -> Held
     }
 }
 
+// What is held after some command words, and what is left of the allowance.
+struct Reached {
+    held: Held,
+    left: u16,
+}
+
+// Whether a word is a No-op that chains.
+fn passes(w: Word) -> bool
+    ensures { λ r. ⌜ r ≡ passes w ⌝ }
+{
+    if w.code != 0x03 {
+        return false;
+    }
+    w.flags / 64 % 2 == 1
+}
+
+// Whether the word at an address is one.
+fn is_pass(storage: &[u8], at: u32) -> bool
+    ensures { λ r. ⌜ r ≡ passing (tested (now (storage .entry)) at false) ⌝ }
+{
+    match words::test(storage, at, false) {
+        Tested::Obey(w) => passes(w),
+        Tested::Jump(_) => false,
+        Tested::Bad(_) => false,
+    }
+}
+
+fn passed(h: Held, next: u32) -> Held
+    ensures { λ r. ⌜ r ≡ passed h next ⌝ }
+{
+    let stands = h.stands;
+    let orders = outcome::ordered_after(h.orders, 0x03, false, 0, Selection::Nothing);
+    let channel = Channel {
+        going: h.channel.going,
+        key: h.channel.key,
+        next,
+        after_tic: false,
+    };
+    Held {
+        stands,
+        orders,
+        channel,
+    }
+}
+
+// A run of No-ops that chain, in one stroke: they need no track.
+fn pass(h: Held, storage: &[u8], allowance: u16) -> Reached
+    requires { ⌜ (0 < allowance) × (h .channel .going ≡ true) × (passing (tested (now storage) (h .channel .next) false) ≡ true) ⌝ }
+    ensures { λ r. ⌜ Passed (now (storage .entry)) h allowance (r .held) (r .left) × (r .left < allowance) ⌝ }
+{
+    let mut next = words::advanced(h.channel.next, 8);
+    let mut left = allowance - 1;
+    while 0 < left {
+        if !is_pass(storage, next) {
+            return Reached {
+                held: passed(h, next),
+                left,
+            };
+        }
+        next = words::advanced(next, 8);
+        left -= 1;
+    }
+    Reached {
+        held: passed(h, next),
+        left,
+    }
+}
+
+// The next command word of a chain that is going, or a run of No-ops.
+fn advance(g: Shape, h: Held, storage: &mut [u8], cells: &mut [u16], left: u16) -> Reached
+    requires { ⌜ Legal g (world h (now storage) (now cells)) × (0 < left) × (h .channel .going ≡ true) ⌝ }
+    ensures { λ r. ⌜ (run g left (world h (now (storage .entry)) (now (cells .entry))) ≡ run g (r .left) (world (r .held) (now (storage .exit)) (now (cells .exit)))) × Legal g (world (r .held) (now (storage .exit)) (now (cells .exit))) × (r .left < left) ⌝ }
+{
+    if is_pass(storage, h.channel.next) {
+        return pass(h, storage, left);
+    }
+    let held = step(g, h, storage, cells);
+    Reached {
+        held,
+        left: left - 1,
+    }
+}
+
 // An allowance of command words.
 pub fn run(g: Shape, h: Held, storage: &mut [u8], cells: &mut [u16], allowance: u16) -> Held
     requires { ⌜ Legal g (world h (now storage) (now cells)) ⌝ }
@@ -158,8 +245,9 @@ pub fn run(g: Shape, h: Held, storage: &mut [u8], cells: &mut [u16], allowance: 
         if !held.channel.going {
             return held;
         }
-        held = step(g, held, storage, cells);
-        left -= 1;
+        let reached = advance(g, held, storage, cells, left);
+        held = reached.held;
+        left = reached.left;
     }
     held
 }

@@ -1,13 +1,11 @@
 -- `chain::run` meets its contract. The invariant: what is left of the allowance, from the world as it is, comes to the whole from the world
 -- as it was; and a legal world stays legal. Assumes nothing.
-use Prim.Native.Nat.{_-_}
-use mathlib.Core.Path.{_≡_, refl, sym, ap, _∙_, subst}
+use mathlib.Core.Path.{_≡_, refl, sym, _∙_}
 use lib.ListN.{length}
 use borrow.Author.Tests.{not-true, not-false}
 use Rattle.chain.specs.Step.{world, run}
 use Rattle.chain.specs.Legal.{Legal}
-use Rattle.chain.proofs.Legal.{step-legal}
-use Rattle.chain.proofs.Runs.{run-more, run-idle, run-none}
+use Rattle.chain.proofs.Runs.{run-idle, run-none}
 use borrow.Author.Needs.{needs}
 use Rattle.chain.proofs.run.Statement.{statement}
 use Rattle.chain.proofs.run.Tie as tie
@@ -32,25 +30,19 @@ same-length-2 c = search needs
 returns : tie.Need-returns Inv-loop μ-loop
 returns c = sym (c .before .before .before .loop .inv .0 ∙ run-idle _ _ _ (not-true _ (c .if1 .taken)))
 
-step-requires : tie.Need-step-requires Inv-loop μ-loop
-step-requires c κs = search needs
-
-sub-left : tie.Need-sub-left Inv-loop μ-loop
-sub-left c = search needs
+advance-requires : tie.Need-advance-requires Inv-loop μ-loop
+advance-requires c κs =
+    let l = c .before .before .before .before .before .loop in
+    (l .inv .1, c .before .before .before .before .loop-test .taken, not-false _ (c .before .before .if1 .left))
 
 loop-less : tie.Need-loop-less Inv-loop μ-loop
 loop-less c = search needs
 
 loop-again : tie.Need-loop-again Inv-loop μ-loop
 loop-again c =
-    let called = c .before .before .before .before .step in
-    let b = c .before .before .before .before .before .before .before in
-    let l = b .before .before .before .loop in (
-      l .inv .0 ∙ run-more _ _ _ (b .before .before .loop-test .taken) (not-false _ (b .if1 .left)) ∙ ap (run _ _) (sym (called .ensures)),
-      subst (Legal _) (sym (called .ensures)) (step-legal _ _ (l .inv .1)),
-      called .kept .1 .1 .0 ∙ l .inv .2,
-      called .kept .1 .1 .1 .0 ∙ l .inv .3,
-    )
+    let called = c .before .before .before .before .before .advance in
+    let l = c .before .before .before .before .before .before .before .before .before .before .before .loop in
+    (l .inv .0 ∙ called .ensures .0, called .ensures .1, called .kept .1 .1 .0 ∙ l .inv .2, called .kept .1 .1 .1 .0 ∙ l .inv .3)
 
 same-length-3 : tie.Need-same-length-3 Inv-loop μ-loop
 same-length-3 c = search needs
@@ -71,8 +63,7 @@ run-spec =
     same-length
     same-length-2
     returns
-    step-requires
-    sub-left
+    advance-requires
     loop-less
     loop-again
     same-length-3

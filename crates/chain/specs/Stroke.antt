@@ -1,0 +1,40 @@
+-- A No-op that chains, in one stroke. No rule of document 01's: `Strokes` among the proofs shows that the model's step comes to it, so that a run of
+-- No-ops needs no track. Assumes nothing.
+use Prim.Native.Nat.{ℕ}
+use mathlib.Core.Path.{_≡_}
+use mathlib.Core.Bool.{Bool, false}
+use mathlib.Core.List.{List}
+use lib.Dec.{eqb}
+use Rattle.cells.specs.Choice.{both}
+use Rattle.words.specs.declared.Word.{Word}
+use Rattle.words.specs.declared.Tested.{Tested}
+use Rattle.words.specs.declared.Tested.the-variants.{Obey, Jump, Bad}
+use Rattle.words.specs.Words.{chains}
+use Rattle.pack.specs.declared.Shape.{Shape}
+use Rattle.held.specs.declared.Held.{Held}
+use Rattle.held.specs.declared.Selection.the-variants.{Nothing}
+use Rattle.outcome.specs.Outcome.{after}
+use Rattle.chain.specs.Step.{world, run}
+use Rattle.chain.specs.Legal.{Legal}
+
+-- No-op, with flag 40
+unfoldable pub passes : Word → Bool
+passes w = both (eqb (w .code) 0x03) (chains w)
+
+unfoldable pub passing : Tested → Bool
+passing (Obey w) = passes w
+passing (Jump a) = false
+passing (Bad cause) = false
+
+-- what is held after No-ops, with this next word
+unfoldable pub passed : Held → ℕ → Held
+passed h next = record {
+  stands = h .stands;
+  orders = after (h .orders) 0x03 false 0 Nothing;
+  channel = record { going = h .channel .going; key = h .channel .key; next = next; «after_tic» = false };
+}
+
+-- on any pack: an allowance from what was held comes to what is left of it from what is held now, and a legal world stays legal
+pub record Passed (s : List ℕ) (h : Held) (n : ℕ) (k : Held) (left : ℕ) : Type 0 where
+  pub same : (g : Shape) (c : List ℕ) → Legal g (world h s c) → run g n (world h s c) ≡ run g left (world k s c)
+  pub legal : (g : Shape) (c : List ℕ) → Legal g (world h s c) → Legal g (world k s c)
