@@ -202,20 +202,20 @@ fn pass(h: Held, storage: &[u8], allowance: u16) -> Reached
     ensures { λ r. ⌜ Passed (now (storage .entry)) h allowance (r .held) (r .left) × (r .left < allowance) ⌝ }
 {
     let mut next = words::advanced(h.channel.next, 8);
-    let mut left = allowance - 1;
-    while 0 < left {
+    let mut rest = allowance - 1;
+    while 0 < rest {
         if !is_pass(storage, next) {
             return Reached {
                 held: passed(h, next),
-                left,
+                left: rest,
             };
         }
         next = words::advanced(next, 8);
-        left -= 1;
+        rest -= 1;
     }
     Reached {
         held: passed(h, next),
-        left,
+        left: rest,
     }
 }
 

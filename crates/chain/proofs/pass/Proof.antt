@@ -8,16 +8,16 @@ use Rattle.chain.proofs.pass.Statement.{statement}
 use Rattle.chain.proofs.pass.Tie as tie
 
 abbrev Inv-loop : tie.InvT-loop
-Inv-loop h storage allowance next₀ left₀ next left = Passed storage h allowance (passed h next) left × (left < allowance)
+Inv-loop h storage allowance next₀ rest₀ next rest = Passed storage h allowance (passed h next) rest × (rest < allowance)
 
 abbrev μ-loop : tie.MeasureT-loop
-μ-loop h storage allowance next₀ left₀ next left = left
+μ-loop h storage allowance next₀ rest₀ next rest = rest
 
 advanced-requires : tie.Need-advanced-requires Inv-loop μ-loop
 advanced-requires c κs = search needs
 
-sub-left : tie.Need-sub-left Inv-loop μ-loop
-sub-left c = search needs
+sub-rest : tie.Need-sub-rest Inv-loop μ-loop
+sub-rest c = search needs
 
 loop-holds : tie.Need-loop-holds Inv-loop μ-loop
 loop-holds c =
@@ -36,8 +36,8 @@ returns c = passed-told _ _ _ _ _ _ (c .before .before .before .before .loop .in
 advanced-requires-2 : tie.Need-advanced-requires-2 Inv-loop μ-loop
 advanced-requires-2 c κs = search needs
 
-sub-left-2 : tie.Need-sub-left-2 Inv-loop μ-loop
-sub-left-2 c = search needs
+sub-rest-2 : tie.Need-sub-rest-2 Inv-loop μ-loop
+sub-rest-2 c = search needs
 
 loop-less : tie.Need-loop-less Inv-loop μ-loop
 loop-less c = search needs
@@ -61,13 +61,13 @@ pass-spec =
     Inv-loop
     μ-loop
     advanced-requires
-    sub-left
+    sub-rest
     loop-holds
     is-pass-requires
     passed-requires
     returns
     advanced-requires-2
-    sub-left-2
+    sub-rest-2
     loop-less
     loop-again
     passed-requires-2
