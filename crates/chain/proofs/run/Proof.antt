@@ -1,6 +1,7 @@
 -- `chain::run` meets its contract. The invariant: what is left of the allowance, from the world as it is, comes to the whole from the world
 -- as it was; and a legal world stays legal. Assumes nothing.
 use mathlib.Core.Path.{_≡_, refl, sym, _∙_}
+use native.Mathlib.Omega.{arith}
 use lib.ListN.{length}
 use borrow.Author.Tests.{not-true, not-false}
 use Rattle.chain.specs.Step.{world, run}
@@ -33,7 +34,7 @@ returns c = sym (c .before .before .before .loop .inv .0 ∙ run-idle _ _ _ (not
 advance-requires : tie.Need-advance-requires Inv-loop μ-loop
 advance-requires c κs =
     let l = c .before .before .before .before .before .loop in
-    (l .inv .1, c .before .before .before .before .loop-test .taken, not-false _ (c .before .before .if1 .left))
+    (l .inv .1, omega (arith, c .before .before .before .before .loop-test .taken), not-false _ (c .before .before .if1 .left))
 
 loop-less : tie.Need-loop-less Inv-loop μ-loop
 loop-less c = search needs
