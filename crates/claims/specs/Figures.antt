@@ -110,7 +110,7 @@ OnFullPack fact = (cells : List ℕ) → length cells ≡ 8314880 → fact cells
 
 pub record Figures : Type 0 where
   -- 1. 72 holds 00000100; at 256 Search HA; at 272 No-op. Status word: 00 00 01 18 0C 00 00 01. The start before the search and the No-op
-  -- after it are here; the search itself joins with the issue that builds it
+  -- after it are here; the search itself joins when searches are built
   pub one-start : started .answer ≡ AllowanceUsed
   pub one-start-going : started .left .held .channel .going ≡ true
   pub one-start-next : started .left .held .channel .next ≡ 256
