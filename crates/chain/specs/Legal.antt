@@ -1,14 +1,13 @@
 -- Document 01, "What the host hears", refusal 4: what a held state must be. Assumes nothing.
 use Prim.Native.Nat.{ℕ, _<_, _≤_}
 use mathlib.Core.Path.{_≡_}
-use mathlib.Core.Bool.{Bool, true, false, not}
+use mathlib.Core.Bool.{Bool, true, not}
 use mathlib.Core.List.{List}
-use lib.ListN.{length, getD}
+use lib.ListN.{length}
 use Rattle.cells.specs.Cells.{trackCells, marks}
 use Rattle.mask.specs.Mask.{legal}
 use Rattle.words.specs.Words.{addresses}
-use Rattle.hunt.specs.declared.Spot.{Spot}
-use Rattle.hunt.specs.declared.Spot.the-variants.{Zero, Marker}
+use Rattle.hunt.specs.Hunt.{spotFits}
 use Rattle.pack.specs.declared.Shape.{Shape}
 use Rattle.pack.specs.Tracks as Tracks
 use Rattle.pack.specs.Tracks.{Whole, trackAt}
@@ -19,11 +18,6 @@ use Rattle.held.specs.declared.Stands.{Stands}
 use Rattle.held.specs.declared.Orders.{Orders}
 use Rattle.held.specs.declared.Channel.{Channel}
 use Rattle.chain.specs.Step.{World, under}
-
--- R0, or a cell that holds a marker, by the markers of the track under the head
-unfoldable pub spotFits : List Bool → Spot → Bool
-spotFits m Zero = true
-spotFits m (Marker p) = getD m p false
 
 -- a selection is there where the command before leaves one
 unfoldable pub selectionFits : List Bool → Orders → Selection → Bool

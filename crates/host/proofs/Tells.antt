@@ -33,7 +33,8 @@ use Rattle.held.specs.declared.Selection.the-variants.{Nothing, On}
 use Rattle.held.specs.declared.Orders.{Orders}
 use Rattle.held.specs.declared.Held.{Held}
 use Rattle.chain.specs.Step.{World, world, under, run}
-use Rattle.chain.specs.Legal.{spotFits, selectionFits}
+use Rattle.chain.specs.Legal.{selectionFits}
+use Rattle.hunt.specs.Hunt.{spotFits}
 use Rattle.host.specs.declared.Answer.{Answer}
 use Rattle.host.specs.declared.Answer.the-variants.{ChainEnded, AllowanceUsed, BadStorage, BadPack, BadHeld, NoChain, ChainGoing}
 use Rattle.host.specs.declared.Guarded.{Guarded}

@@ -18,7 +18,8 @@ ghost use Rattle.cells.specs.Cells.{marks};
 ghost use Rattle.words.specs.Words.{begunBy, tested};
 ghost use Rattle.pack.specs.Tracks.{Whole, On, trackAt};
 ghost use Rattle.chain.specs.Step.{world, under};
-ghost use Rattle.chain.specs.Legal.{spotFits, selectionFits};
+ghost use Rattle.hunt.specs.Hunt.{spotFits};
+ghost use Rattle.chain.specs.Legal.{selectionFits};
 ghost use Rattle.host.specs.Host.{hears, storageFits, standsFit, ordersFit, channelFits, heldFits, guardOf, wrongHeld, refusesStart, beginning, firstWord, begins, starts, goes, answerNo};
 
 pub enum Answer {

@@ -2,9 +2,9 @@
 -- nothing else on the track. Assumes nothing.
 use Prim.Native.Nat.{ℕ, suc, _+_}
 use mathlib.Core.Path.{_≡_}
-use mathlib.Core.Bool.{Bool}
+use mathlib.Core.Bool.{Bool, true, false}
 use mathlib.Core.List.{List, [], _∷_}
-use lib.ListN.{length, drop}
+use lib.ListN.{length, getD, drop}
 use lib.Dec.{ltb}
 use Rattle.cells.specs.Choice.{pick}
 use Rattle.cells.specs.Cells.{trackCells, firstMarker}
@@ -32,6 +32,11 @@ hunt m p = scan (drop p m) p
 unfoldable pub countFirst : Spot → ℕ
 countFirst Zero = firstMarker
 countFirst (Marker p) = p + 1
+
+-- R0, or a cell that holds a marker
+unfoldable pub spotFits : List Bool → Spot → Bool
+spotFits m Zero = true
+spotFits m (Marker p) = getD m p false
 
 -- what the head comes to past the index, looking from cell 7
 unfoldable pub pastIndex : Found → Next

@@ -1,0 +1,2 @@
+-- The model of what work on a record reads.
+pub mod Work
