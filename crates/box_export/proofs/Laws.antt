@@ -1,11 +1,10 @@
 -- What the code's calls come to, in the model's words, and that a refusal leaves every byte as it was. Assumes nothing.
 use Prim.Native.Nat.{ℕ}
 use mathlib.Core.Path.{_≡_, refl, sym, ap, _∙_}
-use mathlib.Core.Bool.{Bool, true, false}
+use mathlib.Core.Bool.{Bool}
 use mathlib.Core.List.{List}
 use lib.ListN.{length}
 use lib.Dec.{eqb}
-use native.Mathlib.Omega.{arith}
 use borrow.Author.Tests.{eq-eqb, eqb-true}
 use Rattle.cells.proofs.Tests.{first-of}
 use Rattle.cells.specs.Choice.{pick}
@@ -13,7 +12,8 @@ use Rattle.pack.specs.declared.Shape.{Shape}
 use Rattle.held.specs.declared.Held.{Held}
 use Rattle.held.specs.declared.Kept.{Kept}
 use Rattle.held.specs.declared.Kept.the-variants.{Holds, Wrong}
-use Rattle.held.specs.Bytes.{heldBytes, encoded, encodes, decoded, kept, bit}
+use Rattle.held.specs.Bytes.{heldBytes, encoded, encodes, kept, bit}
+use Rattle.held.proofs.Inverse.{says}
 use Rattle.chain.specs.Step.{world}
 use Rattle.host.specs.declared.Answer.{Answer}
 use Rattle.host.specs.Host.{Hears, hears, answerNo, wrongHeld, starts, goes}
@@ -23,13 +23,9 @@ call-eq : {a b : ℕ} {v w s t c d : List ℕ} → a ≡ b → v ≡ w → s ≡
 call-eq p q r u = λ i. record { answer = p i; held = q i; storage = r i; cells = u i }
 
 -- bytes that say a state are of the right number
-says : (v : List ℕ) (h : Held) (t : Bool) → pick t (Holds (decoded v)) Wrong ≡ Holds h → t ≡ true
-says v h true e = refl
-says v h false e = absurd (let z : _≡_ {A = ℕ} 0 1 = cc in omega arith)
-
 kept-long : (v : List ℕ) (h : Held) → kept v ≡ Holds h → length v ≡ heldBytes
 unfolding kept encodes
-kept-long v h e = eqb-true (length v) heldBytes (first-of (eqb (length v) heldBytes) _ (says v h (encodes v) e))
+kept-long v h e = eqb-true (length v) heldBytes (first-of (eqb (length v) heldBytes) _ (says v h (encodes v) e .0))
 
 -- the bytes that a call puts back
 back : (v w : List ℕ) (h k : Held) → kept v ≡ Holds h → w ≡ pick (eqb (length v) heldBytes) (encoded k) v → w ≡ encoded k

@@ -19,6 +19,18 @@ pub getD-bytesOf : (t : List ℕ) (i : ℕ) → getD (bytesOf t) i 0 ≡ byteOf 
 unfolding bytesOf
 getD-bytesOf t i = List·getD-map byteOf t i 0
 
+pub take-bytesOf : (n : ℕ) (t : List ℕ) → take n (bytesOf t) ≡ bytesOf (take n t)
+unfolding bytesOf
+take-bytesOf zero t = refl
+take-bytesOf (suc n) [] = refl
+take-bytesOf (suc n) (x ∷ t) = ap (λ (v : List ℕ). byteOf x ∷ v) (take-bytesOf n t)
+
+pub drop-bytesOf : (n : ℕ) (t : List ℕ) → drop n (bytesOf t) ≡ bytesOf (drop n t)
+unfolding bytesOf
+drop-bytesOf zero t = refl
+drop-bytesOf (suc n) [] = refl
+drop-bytesOf (suc n) (x ∷ t) = drop-bytesOf n t
+
 -- ---- a part of a list
 
 module _ (l : List ℕ) (at : ℕ) where
@@ -78,7 +90,37 @@ overlay-append l at v w h =
     ap₂ (λ (x y : List ℕ). x ++ w ++ y) front back
     ∙ ap (λ (x : List ℕ). x ++ drop (at + length (v ++ w)) l) (append-assoc (take at l) v w)
 
+-- so many elements of two lists: of the first, then of the second
+pub take-append : (n : ℕ) (x y : List ℕ) → take n (x ++ y) ≡ take n x ++ take (n - length x) y
+take-append zero [] y = refl
+take-append zero (a ∷ x) y = let e : 0 - length (a ∷ x) ≡ 0 = omega arith in ap (λ (k : ℕ). take k y) (sym e)
+take-append (suc n) [] y = let e : suc n ≡ suc n - length {A = ℕ} [] = omega arith in ap (λ (k : ℕ). take k y) e
+take-append (suc n) (a ∷ x) y =
+    let e : n - length x ≡ suc n - length (a ∷ x) = omega arith in
+    ap (λ (l : List ℕ). a ∷ l) (take-append n x y) ∙ ap (λ (k : ℕ). a ∷ take n x ++ take k y) e
+
+-- .. laid over, one list after the other
+pub overlay-two : (l : List ℕ) (at n m : ℕ) (x y : List ℕ) → at + n ≤ length l → m ≡ length (take n x)
+    → overlay (overlay l at (take n x)) (at + m) (take (n - m) y) ≡ overlay l at (take n (x ++ y))
+overlay-two l at n m x y h e =
+    let short : n - m ≡ n - length x = omega (arith, length-take n x) in
+    ap₂ (λ (k j : ℕ). overlay (overlay l at (take n x)) (at + k) (take j y)) e short
+    ∙ overlay-append l at (take n x) (take (n - length x) y) (omega (arith, length-take n x, length-take (n - length x) y))
+    ∙ ap (overlay l at) (sym (take-append n x y))
+
+
 -- outside of what is laid over nothing changes
+-- a part laid over where it was
+pub overlay-same : (l : List ℕ) (at n : ℕ) → at + n ≤ length l → overlay l at (part l at n) ≡ l
+unfolding overlay part
+overlay-same l at n h =
+    let long : length (take n (drop at l)) ≡ n = simp (length-take, length-drop) (omega arith) in
+    ap (λ (k : ℕ). take at l ++ take n (drop at l) ++ drop (at + k) l) long
+    ∙ ap (λ (x : List ℕ). take at l ++ take n (drop at l) ++ x) (sym (drop-drop n at l))
+    ∙ append-assoc (take at l) (take n (drop at l)) (drop n (drop at l))
+    ∙ ap (λ (x : List ℕ). take at l ++ x) (take-append-drop n (drop at l))
+    ∙ take-append-drop at l
+
 pub overlay-before : (l : List ℕ) (at : ℕ) (v : List ℕ) (i : ℕ) → at ≤ length l → i < at → getD (overlay l at v) i 0 ≡ getD l i 0
 unfolding overlay
 overlay-before l at v i k h =

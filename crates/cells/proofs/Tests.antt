@@ -1,7 +1,7 @@
 -- What a branch of the code says of the tests of the model. Assumes nothing.
 use Prim.Native.Nat.{ℕ}
 use mathlib.Core.Bool.{Bool, true, false, false≢true}
-use mathlib.Core.Path.{_≡_, refl}
+use mathlib.Core.Path.{_≡_, refl, ap}
 use native.Mathlib.Omega.{arith}
 use lib.Dec.{ltb}
 use Rattle.cells.specs.Choice.{pick, both}
@@ -32,3 +32,10 @@ second-of false b e = absurd (false≢true e)
 
 pub both-of : {a b : Bool} → a ≡ true → b ≡ true → both a b ≡ true
 both-of p q = λ i. both (p i) (q i)
+
+-- a choice whose test is known
+pub first-picked : {A : Type 0} (b : Bool) (x y : A) → b ≡ true → pick b x y ≡ x
+first-picked b x y e = ap (λ (c : Bool). pick c x y) e
+
+pub second-picked : {A : Type 0} (b : Bool) (x y : A) → b ≡ false → pick b x y ≡ y
+second-picked b x y e = ap (λ (c : Bool). pick c x y) e

@@ -1,18 +1,16 @@
 -- The model's step of a No-op that chains: it puts no byte into storage, leaves the track as it found it and counts no length, so that the channel
 -- goes on to the word 8 on. Hence a run of them is one stroke. Assumes nothing.
-use Prim.Native.Nat.{ℕ, _+_, _-_, _<_, _≤_}
+use Prim.Native.Nat.{ℕ, _-_, _<_}
 use mathlib.Core.Path.{_≡_, refl, sym, ap, _∙_, subst}
 use mathlib.Core.Bool.{Bool, true, false, false≢true}
-use mathlib.Core.List.{List, _++_, append-assoc}
+use mathlib.Core.List.{List}
 use native.Mathlib.Omega.{arith}
-use lib.ListN.{length, take, drop, length-take, length-drop, take-append-drop}
-use lib.Seq.{drop-drop}
+use lib.ListN.{length}
 use lib.Dec.{eqb}
 use borrow.Author.Tests.{eqb-true, eq-eqb, ne-eqb}
 use Rattle.cells.specs.Choice.{pick, both}
-use Rattle.cells.specs.Bytes.{part, overlay}
-use Rattle.cells.proofs.Laws.{overlay-none}
-use Rattle.cells.proofs.Tests.{first-of, second-of}
+use Rattle.cells.proofs.Laws.{overlay-none, overlay-same}
+use Rattle.cells.proofs.Tests.{first-of, second-of, first-picked}
 use Rattle.words.specs.declared.Word.{Word}
 use Rattle.words.specs.declared.Tested.{Tested}
 use Rattle.words.specs.declared.Tested.the-variants.{Obey, Jump, Bad}
@@ -35,20 +33,6 @@ use Rattle.chain.specs.Stroke.{passes, passing, passed, Passed}
 use Rattle.chain.proofs.Laws.{world-eq}
 use Rattle.chain.proofs.Legal.{step-legal}
 use Rattle.chain.proofs.Runs.{run-more}
-
--- a part laid over where it was
-overlay-same : (l : List ℕ) (at n : ℕ) → at + n ≤ length l → overlay l at (part l at n) ≡ l
-unfolding overlay part
-overlay-same l at n h =
-    let long : length (take n (drop at l)) ≡ n = simp (length-take, length-drop) (omega arith) in
-    ap (λ (k : ℕ). take at l ++ take n (drop at l) ++ drop (at + k) l) long
-    ∙ ap (λ (x : List ℕ). take at l ++ take n (drop at l) ++ x) (sym (drop-drop n at l))
-    ∙ append-assoc (take at l) (take n (drop at l)) (drop n (drop at l))
-    ∙ ap (λ (x : List ℕ). take at l ++ x) (take-append-drop n (drop at l))
-    ∙ take-append-drop at l
-
-first-picked : {A : Type 0} (b : Bool) (x y : A) → b ≡ true → pick b x y ≡ x
-first-picked b x y e = ap (λ (c : Bool). pick c x y) e
 
 -- whether a TIC came before does not matter to it
 module _ (s : List ℕ) (at : ℕ) where

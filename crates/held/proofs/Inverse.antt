@@ -302,7 +302,8 @@ encoded-decoded v b e =
     ∷ rest i in
     made ∙ sym (opens 24 0 v (omega (arith, r .long)))
 
-says : (v : List ℕ) (h : Held) (t : Bool) → pick t (Holds (decoded v)) Wrong ≡ Holds h → (t ≡ true) × (decoded v ≡ h)
+-- bytes that say a state encode it
+pub says : (v : List ℕ) (h : Held) (t : Bool) → pick t (Holds (decoded v)) Wrong ≡ Holds h → (t ≡ true) × (decoded v ≡ h)
 says v h true e = (refl, cc)
 says v h false e = absurd (let z : _≡_ {A = ℕ} 0 1 = cc in omega arith)
 

@@ -5,9 +5,9 @@ use areas::Counts;
 use rows::Row;
 ghost use mathlib.Core.Path.{_≡_};
 ghost use mathlib.Core.List.{_∷_, []};
-ghost use Prim.Native.Nat.{_<_};
-ghost use Rattle.areas.specs.Areas.{homeArea, dataArea, countsAt, readCount};
-ghost use Rattle.areas.specs.declared.CountRead.the-variants.{Reads};
+ghost use lib.Dec.{ltb};
+ghost use Rattle.cells.specs.Choice.{both};
+ghost use Rattle.areas.specs.Areas.{homeArea};
 ghost use Rattle.work.specs.declared.Got.the-variants.{Sees};
 ghost use Rattle.work.specs.Work.{areaIf, named, allRead, gets, noCounts, sent};
 
@@ -23,7 +23,17 @@ pub enum Got {
     Fails(Row),
 }
 
-// One area read, if it is named and there.
+// Whether an area is named and there, by its length.
+fn is_there(named: bool, length: u16) -> bool
+    ensures { λ r. ⌜ r ≡ both named (ltb 0 length) ⌝ }
+{
+    if !named {
+        return false;
+    }
+    0 < length
+}
+
+// An area read before what else is got, if it is there.
 fn read_if(track: &[u16], there: bool, a: Area, x: Got) -> Got
     ensures { λ r. ⌜ r ≡ allRead (now (track .entry)) (areaIf there a) x ⌝ }
 {
@@ -37,15 +47,14 @@ fn read_if(track: &[u16], there: bool, a: Area, x: Got) -> Got
     Got::Fails(areas::row_of(part))
 }
 
-// The key and the data of a record, if they are named and there.
+// The key and the data of a record, if they are named and there. The key's row stands before the data's.
 fn read_named(track: &[u16], c: u16, key: bool, body: bool, n: Counts) -> Got
     ensures { λ r. ⌜ r ≡ allRead (now (track .entry)) (named c key body n) (Sees n) ⌝ }
 {
-    let got = read_if(track, key && 0 < n.kl, areas::key_area(c, n), Got::Sees(n));
-    match got {
-        Got::Sees(_) => read_if(track, body && 0 < n.dl, areas::data_area(c, n), got),
-        Got::Fails(_) => got,
-    }
+    let data = is_there(body, n.dl);
+    let got = read_if(track, data, areas::data_area(c, n), Got::Sees(n));
+    let keyed = is_there(key, n.kl as u16);
+    read_if(track, keyed, areas::key_area(c, n), got)
 }
 
 // The home address.

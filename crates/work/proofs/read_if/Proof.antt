@@ -1,30 +1,25 @@
+-- `work::read_if` meets its contract: what else is got stands, or the area is not readable. Assumes nothing.
+use mathlib.Core.Path.{sym, _∙_}
+use Rattle.work.proofs.Laws.{not-there, there-good, there-bad}
+use borrow.Author.Tests.{not-true, not-false}
 use borrow.Author.Needs.{needs}
 use Rattle.work.proofs.read_if.Statement.{statement}
 use Rattle.work.proofs.read_if.Tie as tie
-use Rattle.work.proofs.read_if.Reads as reads
-use Rattle.work.proofs.read_if.Lts as lts
-use Rattle.areas.proofs.is_readable.Reads as is-readable-reads
-use Rattle.areas.proofs.row_of.Reads as row-of-reads
 
--- src/lib.rt:31:9
 returns : tie.Need-returns
-returns c = ?
+returns c = not-there _ _ _ _ (not-true _ (c .if1 .taken))
 
--- src/lib.rt:33:8
 is-readable-requires : tie.Need-is-readable-requires
 is-readable-requires c κs = search needs
 
--- src/lib.rt:34:9
 returns-2 : tie.Need-returns-2
-returns-2 c = ?
+returns-2 c = there-good _ _ _ _ (not-false _ (c .before .before .if1 .left)) (sym (c .before .is-readable .ensures) ∙ c .if2 .taken)
 
--- src/lib.rt:37:16
 row-of-requires : tie.Need-row-of-requires
 row-of-requires c κs = search needs
 
--- src/lib.rt:27:1
 returns-3 : tie.Need-returns-3
-returns-3 c = ?
+returns-3 c = there-bad _ _ _ _ _ (not-false _ (c .before .before .before .if1 .left)) (sym (c .before .before .is-readable .ensures) ∙ c .before .if2 .left) (c .row-of .ensures)
 
 pub read-if-spec : {M : Type 1} → statement M
 read-if-spec =

@@ -1,0 +1,2 @@
+-- Laws of what work reads.
+pub mod Laws
