@@ -108,7 +108,6 @@ overlay-two l at n m x y h e =
     ∙ overlay-append l at (take n x) (take (n - length x) y) (omega (arith, length-take n x, length-take (n - length x) y))
     ∙ ap (overlay l at) (sym (take-append n x y))
 
-
 -- outside of what is laid over nothing changes
 -- a part laid over where it was
 pub overlay-same : (l : List ℕ) (at n : ℕ) → at + n ≤ length l → overlay l at (part l at n) ≡ l

@@ -29,7 +29,8 @@ use Rattle.held.specs.declared.Held.{Held}
 use Rattle.held.specs.Held.{rested}
 use Rattle.outcome.specs.declared.Done.{Done}
 use Rattle.outcome.specs.Outcome.{checked}
-use Rattle.control.specs.Control.{Reaches, controls, puts}
+use Rattle.control.specs.Control.{controls, puts}
+use Rattle.words.specs.Words.{Reaches}
 use Rattle.settle.specs.Settle.{heldAfter, storageAfter}
 use Rattle.chain.specs.Act.{Acted, acted, built, unknown, obeys, acts}
 use Rattle.chain.specs.Step.{World, world, under, stops, settled, obeyed, takes, step}

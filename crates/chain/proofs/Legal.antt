@@ -22,6 +22,7 @@ use Rattle.words.specs.declared.Tested.{Tested}
 use Rattle.words.specs.declared.Tested.the-variants.{Obey, Jump, Bad}
 use Rattle.words.specs.declared.Status.{Status}
 use Rattle.words.specs.declared.Cause.{Cause}
+use Rattle.words.specs.Words.{Reaches}
 use Rattle.words.specs.Status.{stored, statusBytes, statusAt}
 use Rattle.words.proofs.Obeys.{TestedIn, tested-in}
 use Rattle.pack.specs.declared.Shape.{Shape}
@@ -46,7 +47,7 @@ use Rattle.outcome.specs.declared.Done.{Done}
 use Rattle.outcome.specs.declared.Ending.{Ending}
 use Rattle.outcome.specs.declared.Ending.the-variants.{Normal}
 use Rattle.outcome.specs.Outcome.{done, standing, sensing, placed, sought, ordered, after, checked}
-use Rattle.control.specs.Control.{Reaches, afterControl, noOp, senses, senseBytes, soughtAt, addressed, arrived, seeks, masked, masks, spaces, controls, puts}
+use Rattle.control.specs.Control.{afterControl, noOp, senses, senseBytes, soughtAt, addressed, arrived, seeks, masked, masks, spaces, controls, puts}
 use Rattle.settle.specs.Settle.{goesOn, onward, stride, statusAfter, heldAfter, storageAfter}
 use Rattle.chain.specs.Act.{Acted, built, unknown, obeys, acts}
 use Rattle.chain.specs.Step.{World, world, under, stops, jumped, settled, obeyed, takes, step}

@@ -12,6 +12,7 @@ use Rattle.pack.specs.declared.Shape.{Shape}
 use Rattle.pack.specs.Tracks as Tracks
 use Rattle.pack.specs.Tracks.{Whole, trackAt}
 use Rattle.commands.specs.Commands.{commandOf, selects}
+use Rattle.plan.specs.Plan.{mostTally}
 use Rattle.held.specs.declared.Selection.{Selection}
 use Rattle.held.specs.declared.Selection.the-variants.{Nothing, On}
 use Rattle.held.specs.declared.Stands.{Stands}
@@ -24,12 +25,9 @@ unfoldable pub selectionFits : List Bool → Orders → Selection → Bool
 selectionFits m o Nothing = not (selects (commandOf (o .before)))
 selectionFits m o (On spot) = spotFits m spot
 
--- the limits of the key and of the index tally
+-- the limit of the key
 abbrev pub keys : ℕ
 keys = 16
-
-abbrev pub mostTally : ℕ
-mostTally = 1
 
 -- what holds of orders on a track with these markers
 pub record Ordered (m : List Bool) (o : Orders) : Type 0 where

@@ -117,3 +117,24 @@ selects (Searches s) = searchSelects s
 selects (Reads r) = readSelects r
 selects (Writes w) = writeSelects w
 selects Unknown = false
+
+-- Search ID and Read Count: Read Data, Read KD and Search Key chained from them use the selected record
+unfoldable pub searchGives : Search → Bool
+searchGives SearchHome = false
+searchGives (SearchId h) = true
+searchGives (SearchKey h) = false
+
+unfoldable pub givesRecord : Command → Bool
+givesRecord (Controls c) = false
+givesRecord (Searches s) = searchGives s
+givesRecord (Reads r) = readSelects r
+givesRecord (Writes w) = false
+givesRecord Unknown = false
+
+-- Read Data chained from Search Key uses it too
+unfoldable pub givesData : Command → Bool
+givesData (Controls c) = false
+givesData (Searches s) = searchSelects s
+givesData (Reads r) = readSelects r
+givesData (Writes w) = false
+givesData Unknown = false

@@ -1,7 +1,7 @@
 // The command codes, and which commands belong together.
 use mask::Seeking;
 ghost use mathlib.Core.Path.{_≡_};
-ghost use Rattle.commands.specs.Commands.{commandOf, searchOf, readOf, writeOf, looks, searchesHome, readsHome, worksHome, searchSelects, readSelects, writeSelects, selects};
+ghost use Rattle.commands.specs.Commands.{commandOf, searchOf, readOf, writeOf, looks, searchesHome, readsHome, worksHome, searchSelects, readSelects, writeSelects, selects, searchGives, givesRecord, givesData};
 
 // How a search compares.
 pub enum How {
@@ -200,6 +200,42 @@ pub fn is_selecting(c: Command) -> bool
         Command::Searches(s) => search_selects(s),
         Command::Reads(r) => read_selects(r),
         Command::Writes(w) => write_selects(w),
+        Command::Unknown => false,
+    }
+}
+
+fn search_gives(s: Search) -> bool
+    ensures { λ r. ⌜ r ≡ searchGives s ⌝ }
+{
+    match s {
+        Search::SearchHome => false,
+        Search::SearchId(_) => true,
+        Search::SearchKey(_) => false,
+    }
+}
+
+// Whether Read Data, Read KD and Search Key use the record that a command selected.
+pub fn is_giving_record(c: Command) -> bool
+    ensures { λ r. ⌜ r ≡ givesRecord c ⌝ }
+{
+    match c {
+        Command::Controls(_) => false,
+        Command::Searches(s) => search_gives(s),
+        Command::Reads(r) => read_selects(r),
+        Command::Writes(_) => false,
+        Command::Unknown => false,
+    }
+}
+
+// Whether Read Data uses the record that a command selected.
+pub fn is_giving_data(c: Command) -> bool
+    ensures { λ r. ⌜ r ≡ givesData c ⌝ }
+{
+    match c {
+        Command::Controls(_) => false,
+        Command::Searches(s) => search_selects(s),
+        Command::Reads(r) => read_selects(r),
+        Command::Writes(_) => false,
         Command::Unknown => false,
     }
 }

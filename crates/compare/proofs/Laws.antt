@@ -1,16 +1,17 @@
--- Laws of the comparison, for a loop over the bytes: what is left to compare stands for the whole; the first byte that differs decides.
--- Assumes nothing.
-use Prim.Native.Nat.{ℕ, suc, _+_, _-_, _*_, _<_, _≤_}
+-- Laws of the comparison of two lists of bytes of one length, for a loop over them: what is left to compare stands for the whole; the first
+-- byte that differs decides. Assumes nothing.
+use Prim.Native.Nat.{ℕ, _+_, _*_, _<_, _≤_}
 use mathlib.Core.Path.{_≡_, refl, sym, ap, ap₂, _∙_, subst}
 use mathlib.Core.List.{List, _∷_}
-use native.Mathlib.Nat.{add-zero, sub-zero}
+use native.Mathlib.Numerals.{add-one}
 use native.Mathlib.Omega.{arith}
 use native.Mathlib.Decide.{decLt}
-use lib.ListN.{length, getD, List·getD-eq-default}
+use lib.ListN.{length, getD, drop, length-drop, drop-of-length-le, List·getD-eq-default}
+use lib.Seq.{drop-cons, getD-drop}
 use borrow.Author.Tests.{eq-eqb, ne-eqb, lt-ltb, le-ltb}
-use Rattle.cells.specs.Bytes.{numberFrom, part}
+use Rattle.cells.specs.Bytes.{numberFrom, number, part}
 use Rattle.cells.specs.Cells.{byteOf, bytesOf}
-use Rattle.cells.proofs.Laws.{length-bytesOf, getD-bytesOf, length-part, part-cons, getD-part}
+use Rattle.cells.proofs.Laws.{length-bytesOf, getD-bytesOf, length-part, getD-part}
 use Rattle.cells.proofs.Numbers.{Bytes, number-less}
 use Rattle.compare.specs.declared.Compared.{Compared}
 use Rattle.compare.specs.declared.Compared.the-variants.{Low, Equal, High}
@@ -28,58 +29,103 @@ pub compared-same : (x : ℕ) → compared x x ≡ Equal
 unfolding compared
 compared-same x = rw (eq-eqb x x refl)
 
+-- ---- two lists
+
 -- what is left to compare from byte j on, the bytes before having come to n on both sides
-unfoldable pub rest : List ℕ → ℕ → List ℕ → ℕ → ℕ → ℕ → ℕ → Compared
-rest t first s address m j n =
-    compared (numberFrom n (bytesOf (part t (first + j) (m - j)))) (numberFrom n (part s (address + j) (m - j)))
+unfoldable pub rest : List ℕ → List ℕ → ℕ → ℕ → Compared
+rest x y j n = compared (numberFrom n (drop j x)) (numberFrom n (drop j y))
 
-module _ (t : List ℕ) (first : ℕ) (s : List ℕ) (address m : ℕ) where
-  pub rest-all : comparedBytes t first s address m ≡ rest t first s address m 0 0
-  unfolding comparedBytes rest
-  rest-all = rw (add-zero, add-zero, sub-zero)
+bytes-drop : (j : ℕ) (x : List ℕ) → Bytes x → Bytes (drop j x)
+bytes-drop j x b i = subst (λ (z : ℕ). z < 256) (sym (getD-drop j x i 0)) (b (j + i))
 
-  pub rest-none : (j n : ℕ) → m ≤ j → rest t first s address m j n ≡ Equal
-  unfolding rest part bytesOf numberFrom
+pub rest-all : (x y : List ℕ) → compared (number x) (number y) ≡ rest x y 0 0
+unfolding rest
+rest-all x y = refl
+
+module _ (x y : List ℕ) (l : length x ≡ length y) where
+  pub rest-none : (j n : ℕ) → length x ≤ j → rest x y j n ≡ Equal
+  unfolding rest numberFrom
   rest-none j n h =
-      let e : m - j ≡ 0 = omega arith in
-      rw e (compared-same n)
+      ap₂ (λ (u v : List ℕ). compared (numberFrom n u) (numberFrom n v)) (drop-of-length-le x {i = j} h) (drop-of-length-le y {i = j} (omega arith)) ∙ compared-same n
 
-  module _ (here : There t first s address m) (bytes : Bytes s) (j n : ℕ) (h : j < m) where
-    split : rest t first s address m j n ≡ compared (numberFrom (n * 256 + byteOf (getD t (first + j) 0)) (bytesOf (part t (first + (j + 1)) (m - (j + 1)))))
-        (numberFrom (n * 256 + getD s (address + j) 0) (part s (address + (j + 1)) (m - (j + 1))))
-    unfolding rest bytesOf numberFrom
+  module _ (bx : Bytes x) (by : Bytes y) (j n : ℕ) (h : j < length x) where
+    split : rest x y j n
+        ≡ compared (numberFrom (n * 256 + getD x j 0) (drop (j + 1) x)) (numberFrom (n * 256 + getD y j 0) (drop (j + 1) y))
+    unfolding rest numberFrom
     split =
-        let e : m - j ≡ suc (m - (j + 1)) = omega arith in
-        let f : suc (first + j) ≡ first + (j + 1) = omega arith in
-        let g : suc (address + j) ≡ address + (j + 1) = omega arith in
-        let a : part t (first + j) (suc (m - (j + 1))) ≡ getD t (first + j) 0 ∷ part t (first + (j + 1)) (m - (j + 1)) =
-        part-cons t (first + j) (m - (j + 1)) (omega (arith, here .onTrack)) ∙ ap (λ (k : ℕ). getD t (first + j) 0 ∷ part t k (m - (j + 1))) f in
-        let b : part s (address + j) (suc (m - (j + 1))) ≡ getD s (address + j) 0 ∷ part s (address + (j + 1)) (m - (j + 1)) =
-        part-cons s (address + j) (m - (j + 1)) (omega (arith, here .inStorage)) ∙ ap (λ (k : ℕ). getD s (address + j) 0 ∷ part s k (m - (j + 1))) g in
-        ap (λ (k : ℕ). compared (numberFrom n (bytesOf (part t (first + j) k))) (numberFrom n (part s (address + j) k))) e
-        ∙ ap₂ (λ (p q : List ℕ). compared (numberFrom n (bytesOf p)) (numberFrom n q)) a b
+        rw (add-one j)
+        (ap₂ (λ (u v : List ℕ). compared (numberFrom n u) (numberFrom n v)) (drop-cons x j 0 h) (drop-cons y j 0 (omega arith)))
 
-    one-length : length (bytesOf (part t (first + (j + 1)) (m - (j + 1)))) ≡ length (part s (address + (j + 1)) (m - (j + 1)))
-    one-length =
-        length-bytesOf (part t (first + (j + 1)) (m - (j + 1)))
-        ∙ length-part t (first + (j + 1)) (m - (j + 1)) (omega (arith, here .onTrack))
-        ∙ sym (length-part s (address + (j + 1)) (m - (j + 1)) (omega (arith, here .inStorage)))
+    one-length : length (drop (j + 1) x) ≡ length (drop (j + 1) y)
+    one-length = omega (arith, length-drop (j + 1) x, length-drop (j + 1) y)
 
-    pub rest-low : byteOf (getD t (first + j) 0) < getD s (address + j) 0 → rest t first s address m j n ≡ Low
-    rest-low k =
-        split ∙ compared-less _ _ (number-less _ _ _ _ one-length
-        (λ i. subst (λ (z : ℕ). z < 256) (sym (getD-bytesOf (part t (first + (j + 1)) (m - (j + 1))) i)) (omega arith)) (omega arith))
+    pub rest-low : getD x j 0 < getD y j 0 → rest x y j n ≡ Low
+    rest-low k = split ∙ compared-less _ _ (number-less _ _ _ _ one-length (bytes-drop (j + 1) x bx) (omega arith))
 
-    part-byte : (i : ℕ) → Dec (i < m - (j + 1)) → getD (part s (address + (j + 1)) (m - (j + 1))) i 0 < 256
-    part-byte i (yes k) = subst (λ (z : ℕ). z < 256) (sym (getD-part s (address + (j + 1)) (m - (j + 1)) i k)) (bytes (address + (j + 1) + i))
-    part-byte i (no k) = subst (λ (z : ℕ). z < 256) (sym (List·getD-eq-default (part s (address + (j + 1)) (m - (j + 1))) 0 (omega (arith, length-part s (address + (j + 1)) (m - (j + 1)) (omega (arith, here .inStorage)))))) (omega arith)
+    pub rest-high : getD y j 0 < getD x j 0 → rest x y j n ≡ High
+    rest-high k = split ∙ compared-more _ _ (number-less _ _ _ _ (sym one-length) (bytes-drop (j + 1) y by) (omega arith))
 
-    pub rest-high : getD s (address + j) 0 < byteOf (getD t (first + j) 0) → rest t first s address m j n ≡ High
-    rest-high k = split ∙ compared-more _ _ (number-less _ _ _ _ (sym one-length) (λ i. part-byte i (decLt i (m - (j + 1)))) (omega arith))
-
-    pub rest-next : byteOf (getD t (first + j) 0) ≡ getD s (address + j) 0
-        → rest t first s address m j n ≡ rest t first s address m (j + 1) (n * 256 + getD s (address + j) 0)
+    pub rest-next : getD x j 0 ≡ getD y j 0 → rest x y j n ≡ rest x y (j + 1) (n * 256 + getD y j 0)
     unfolding rest
     rest-next k =
-        split ∙ ap (λ (z : ℕ). compared (numberFrom (n * 256 + z) (bytesOf (part t (first + (j + 1)) (m - (j + 1)))))
-        (numberFrom (n * 256 + getD s (address + j) 0) (part s (address + (j + 1)) (m - (j + 1))))) k
+        split ∙ ap₂ (λ (u v : ℕ). compared (numberFrom (n * 256 + u) (drop (j + 1) x)) (numberFrom (n * 256 + v) (drop (j + 1) y))) k refl
+
+-- ---- bytes of storage, and bytes of a track
+
+pub part-bytes : (s : List ℕ) (at m : ℕ) → at + m ≤ length s → Bytes s → Bytes (part s at m)
+part-bytes s at m h b i = go (decLt i m)
+  where
+    go : Dec (i < m) → getD (part s at m) i 0 < 256
+    go (yes k) = subst (λ (z : ℕ). z < 256) (sym (getD-part s at m i k)) (b (at + i))
+    go (no k) = subst (λ (z : ℕ). z < 256) (sym (List·getD-eq-default (part s at m) 0 (omega (arith, length-part s at m h)))) (omega arith)
+
+track-bytes : (t : List ℕ) → Bytes (bytesOf t)
+track-bytes t i = subst (λ (z : ℕ). z < 256) (sym (getD-bytesOf t i)) (omega arith)
+
+-- ---- the loop over a field of a track: the laws of two lists, cell by cell
+
+module _ (t : List ℕ) (first : ℕ) (s : List ℕ) (address m : ℕ) where
+  unfoldable pub left : ℕ → ℕ → Compared
+  left j n = rest (bytesOf (part t first m)) (part s address m) j n
+
+  pub left-all : comparedBytes t first s address m ≡ left 0 0
+  unfolding comparedBytes left
+  left-all = rest-all _ _
+
+  module _ (here : There t first s address m) where
+    length-field : length (bytesOf (part t first m)) ≡ m
+    length-field = length-bytesOf (part t first m) ∙ length-part t first m (here .onTrack)
+
+    one-length-of : length (bytesOf (part t first m)) ≡ length (part s address m)
+    one-length-of = length-field ∙ sym (length-part s address m (here .inStorage))
+
+    pub left-none : (j n : ℕ) → m ≤ j → left j n ≡ Equal
+    unfolding left
+    left-none j n h = rest-none _ _ one-length-of j n (omega (arith, length-field))
+
+    module _ (bytes : Bytes s) (j n : ℕ) (h : j < m) where
+      track-byte : getD (bytesOf (part t first m)) j 0 ≡ byteOf (getD t (first + j) 0)
+      track-byte = getD-bytesOf (part t first m) j ∙ ap byteOf (getD-part t first m j h)
+
+      storage-byte : getD (part s address m) j 0 ≡ getD s (address + j) 0
+      storage-byte = getD-part s address m j h
+
+      pub left-low : byteOf (getD t (first + j) 0) < getD s (address + j) 0 → left j n ≡ Low
+      unfolding left
+      left-low k =
+          rest-low _ _ one-length-of (track-bytes (part t first m)) (part-bytes s address m (here .inStorage) bytes) j n (omega (arith, length-field))
+          (omega (arith, track-byte, storage-byte))
+
+      pub left-high : getD s (address + j) 0 < byteOf (getD t (first + j) 0) → left j n ≡ High
+      unfolding left
+      left-high k =
+          rest-high _ _ one-length-of (track-bytes (part t first m)) (part-bytes s address m (here .inStorage) bytes) j n (omega (arith, length-field))
+          (omega (arith, track-byte, storage-byte))
+
+      pub left-next : byteOf (getD t (first + j) 0) ≡ getD s (address + j) 0 → (k : ℕ) × (left j n ≡ left (j + 1) k)
+      unfolding left
+      left-next k = (
+        _,
+        rest-next _ _ one-length-of (track-bytes (part t first m)) (part-bytes s address m (here .inStorage) bytes) j n (omega (arith, length-field))
+            (track-byte ∙ k ∙ sym storage-byte),
+      )

@@ -27,10 +27,6 @@ use Rattle.outcome.specs.declared.Ending.the-variants.{Normal}
 use Rattle.outcome.specs.declared.Done.{Done}
 use Rattle.outcome.specs.Outcome.{done, placed, sought, ordered, after, checked}
 
--- the word's area lies in storage, as its tests made sure
-pub record Reaches (s : List ℕ) (w : Word) : Type 0 where
-  pub area : w .address + w .count ≤ length s
-
 -- after a control command: none of its own is selected, nothing is licensed, the index tally is 0
 abbrev pub afterControl : Orders → Word → Orders
 afterControl o w = after o (w .code) false 0 Nothing

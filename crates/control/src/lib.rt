@@ -16,8 +16,9 @@ ghost use Prim.Native.Nat.{_+_, _≤_, min};
 ghost use lib.ListN.{length, getD, take};
 ghost use Rattle.cells.specs.Bytes.{be16, overlay};
 ghost use Rattle.cells.specs.Cells.{marks};
+ghost use Rattle.words.specs.Words.{Reaches};
 ghost use Rattle.hunt.specs.Hunt.{Whole};
-ghost use Rattle.control.specs.Control.{Reaches, afterControl, noOp, senses, soughtAt, addressed, arrived, seeks, masked, masks, spaces, controls, puts, senseBytes};
+ghost use Rattle.control.specs.Control.{afterControl, noOp, senses, soughtAt, addressed, arrived, seeks, masked, masks, spaces, controls, puts, senseBytes};
 
 fn after_control(o: Orders, w: Word) -> Orders
     ensures { λ r. ⌜ r ≡ afterControl o w ⌝ }

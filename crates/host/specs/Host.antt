@@ -22,7 +22,8 @@ use Rattle.held.specs.declared.Channel.{Channel}
 use Rattle.held.specs.declared.Held.{Held}
 use Rattle.held.specs.Held.{fresh}
 use Rattle.chain.specs.Step.{World, world, under, run}
-use Rattle.chain.specs.Legal.{selectionFits, keys, mostTally, leastStorage}
+use Rattle.chain.specs.Legal.{selectionFits, keys, leastStorage}
+use Rattle.plan.specs.Plan.{mostTally}
 use Rattle.host.specs.declared.Answer.{Answer}
 use Rattle.host.specs.declared.Answer.the-variants.{ChainEnded, AllowanceUsed, BadStorage, BadPack, BadHeld, BadStart, NoChain, ChainGoing}
 use Rattle.host.specs.declared.Guarded.{Guarded}

@@ -1,72 +1,93 @@
--- What the hunt finds lies on the track: so a place after it is at most the track's end. Assumes nothing.
-use Prim.Native.Nat.{ℕ, suc, _+_, _-_, _<_, _≤_}
-use mathlib.Core.Path.{_≡_, sym, _∙_, subst}
-use mathlib.Core.Bool.{Bool, true, false}
+-- What the hunt comes to is a record of the track, R0 or one with a marker: so a place after it is at most the track's end. Assumes nothing.
+use Prim.Native.Nat.{ℕ, suc, _+_, _<_, _≤_}
+use mathlib.Core.Path.{_≡_, refl, sym, _∙_, subst}
+use mathlib.Core.Bool.{Bool, true, false, true≢false}
 use mathlib.Core.List.{List, [], _∷_}
 use native.Mathlib.Omega.{arith}
 use native.Mathlib.Decide.{decLt}
-use lib.ListN.{length, drop, length-drop, drop-of-length-le}
+use native.Mathlib.Nat.{add-zero}
+use lib.ListN.{length, getD, drop, List·getD-eq-default}
+use lib.Seq.{getD-drop}
+use lib.Dec.{ltb}
 use Rattle.cells.specs.Cells.{trackCells, marks}
 use Rattle.cells.proofs.Marks.{length-marks}
+use Rattle.cells.proofs.Tests.{pick-all}
 use Rattle.hunt.specs.declared.Found.{Found}
 use Rattle.hunt.specs.declared.Found.the-variants.{At, Nothing}
 use Rattle.hunt.specs.declared.Spot.{Spot}
 use Rattle.hunt.specs.declared.Spot.the-variants.{Zero, Marker}
 use Rattle.hunt.specs.declared.Next.{Next}
 use Rattle.hunt.specs.declared.Next.the-variants.{Stands, NoMarker}
-use Rattle.hunt.specs.Hunt.{Whole, scan, hunt, pastIndex, aheadOr, nextRecord, countFirst, spacedTo, spaceRecord}
+use Rattle.hunt.specs.Hunt.{Whole, scan, hunt, spotFits, pastIndex, aheadOr, nextRecord, nextId, countFirst, spacedTo, spaceRecord}
 
--- found, a record, what the head comes to: inside n cells
-abbrev pub FoundIn : ℕ → Found → Type 0
-FoundIn n (At p) = p < n
-FoundIn n Nothing = Unit {0}
+-- found, or come to, a record of the track
+abbrev pub FoundOn : List Bool → Found → Type 0
+FoundOn m (At p) = getD m p false ≡ true
+FoundOn m Nothing = Unit {0}
 
-abbrev pub SpotIn : ℕ → Spot → Type 0
-SpotIn n Zero = Unit {0}
-SpotIn n (Marker p) = p < n
+abbrev pub NextOn : List Bool → Next → Type 0
+NextOn m (Stands spot n) = spotFits m spot ≡ true
+NextOn m NoMarker = Unit {0}
 
-abbrev pub NextIn : ℕ → Next → Type 0
-NextIn n (Stands s k) = SpotIn n s
-NextIn n NoMarker = Unit {0}
+-- ---- a hunt ends at a marker
 
-scan-in : (m : List Bool) (p n : ℕ) → p + length m ≤ n → FoundIn n (scan m p)
+scan-on : (m l : List Bool) (p : ℕ) → ((i : ℕ) → getD l i false ≡ true → getD m (p + i) false ≡ true) → FoundOn m (scan l p)
 unfolding scan
-scan-in [] p n h = tt
-scan-in (true ∷ m) p n h = omega arith
-scan-in (false ∷ m) p n h = scan-in m (suc p) n (omega arith)
+scan-on m [] p f = tt
+scan-on m (true ∷ l) p f = subst (λ (k : ℕ). getD m k false ≡ true) (add-zero p) (f 0 refl)
+scan-on m (false ∷ l) p f =
+    scan-on m l (suc p) (λ i e. let k : p + suc i ≡ suc p + i = omega arith in subst (λ (j : ℕ). getD m j false ≡ true) k (f (suc i) e))
 
-pub hunt-in : (m : List Bool) (p : ℕ) → FoundIn (length m) (hunt m p)
-unfolding hunt scan
-hunt-in m p = go (decLt (length m) p)
-  where
-    go : Dec (length m < p) → FoundIn (length m) (scan (drop p m) p)
-    go (yes h) = subst (λ (l : List Bool). FoundIn (length m) (scan l p)) (sym (drop-of-length-le m {i = p} (omega arith))) tt
-    go (no h) = scan-in (drop p m) p (length m) (omega (arith, length-drop p m))
+hunt-on : (m : List Bool) (p : ℕ) → FoundOn m (hunt m p)
+unfolding hunt
+hunt-on m p = scan-on m (drop p m) p (λ i e. sym (getD-drop p m i false) ∙ e)
 
-ahead-in : (n : ℕ) (f : Found) (x : Next) → FoundIn n f → NextIn n x → NextIn n (aheadOr f x)
-unfolding aheadOr
-ahead-in n (At p) x h k = h
-ahead-in n Nothing x h k = k
+ahead-on : (m : List Bool) (f : Found) (x : Next) → FoundOn m f → NextOn m x → NextOn m (aheadOr f x)
+unfolding aheadOr spotFits
+ahead-on m (At p) x h k = h
+ahead-on m Nothing x h k = k
 
-past-in : (n : ℕ) (f : Found) → FoundIn n f → NextIn n (pastIndex f)
-unfolding pastIndex
-past-in n (At p) h = h
-past-in n Nothing h = tt
+past-on : (m : List Bool) (f : Found) → FoundOn m f → NextOn m (pastIndex f)
+unfolding pastIndex spotFits
+past-on m (At p) h = h
+past-on m Nothing h = tt
 
-pub next-in : (m : List Bool) (p : ℕ) → NextIn (length m) (nextRecord m p)
+-- ---- the record that is come to
+
+pub next-on : (m : List Bool) (p : ℕ) → NextOn m (nextRecord m p)
 unfolding nextRecord
-next-in m p = ahead-in (length m) (hunt m p) _ (hunt-in m p) (past-in (length m) (hunt m 7) (hunt-in m 7))
+next-on m p = ahead-on m (hunt m p) _ (hunt-on m p) (past-on m (hunt m 7) (hunt-on m 7))
 
-spaced-in : (n : ℕ) (x : Next) → 7 ≤ n → NextIn n x → spacedTo x ≤ n
-unfolding spacedTo countFirst
-spaced-in n (Stands Zero k) h i = h
-spaced-in n (Stands (Marker p) k) h i = omega arith
-spaced-in n NoMarker h i = h
+pub zero-on : (m : List Bool) (n : ℕ) → NextOn m (Stands Zero n)
+unfolding spotFits
+zero-on m n = refl
+
+pub id-on : (m : List Bool) (p : ℕ) → NextOn m (nextId m p)
+unfolding nextId
+id-on m p = pick-all (NextOn m) (ltb p 7) (zero-on m 0) (ahead-on m (hunt m p) _ (hunt-on m p) (zero-on m 1))
+
+-- ---- its place
+
+inside : (m : List Bool) (p : ℕ) → getD m p false ≡ true → p < length m
+inside m p e = go (decLt p (length m))
+  where
+    go : Dec (p < length m) → p < length m
+    go (yes h) = h
+    go (no h) = absurd (true≢false (sym e ∙ List·getD-eq-default m false (omega arith)))
+
+module _ (t : List ℕ) (w : Whole t) where
+  pub spot-in : (spot : Spot) → spotFits (marks t) spot ≡ true → countFirst spot ≤ trackCells
+  unfolding spotFits countFirst
+  spot-in Zero e = omega arith
+  spot-in (Marker p) e = omega (arith, inside (marks t) p e, length-marks t, w .long)
+
+  pub next-in : (x : Next) → NextOn (marks t) x → spacedTo x ≤ trackCells
+  unfolding spacedTo
+  next-in (Stands spot n) h = spot-in spot h
+  next-in NoMarker h = omega arith
 
 -- the place after Space Record
 pub space-in : (t : List ℕ) (p : ℕ) (b : Bool) → Whole t → spaceRecord (marks t) p b ≤ trackCells
 unfolding spaceRecord
 space-in t p true w = omega arith
-space-in t p false w =
-    let n : length (marks t) ≡ 4096 = length-marks t ∙ w .long in
-    subst (λ (k : ℕ). spacedTo (nextRecord (marks t) p) ≤ k) n (spaced-in (length (marks t)) (nextRecord (marks t) p) (omega arith) (next-in (marks t) p))
+space-in t p false w = next-in t w (nextRecord (marks t) p) (next-on (marks t) p)

@@ -1,5 +1,5 @@
 -- Document 01, "Channel words": the address word, command words, program checks in their order. Assumes nothing.
-use Prim.Native.Nat.{ℕ, _+_, _/_, _%_}
+use Prim.Native.Nat.{ℕ, _+_, _≤_, _/_, _%_}
 use mathlib.Core.Bool.{Bool}
 use mathlib.Core.List.{List}
 use lib.ListN.{length, getD}
@@ -84,3 +84,7 @@ testedWord s afterTic w =
 -- the tests of the word at an address of storage
 unfoldable pub tested : List ℕ → ℕ → Bool → Tested
 tested s at afterTic = pick (placed s at) (testedWord s afterTic (wordAt s at)) (Bad Place)
+
+-- the word's area lies in storage, as its tests made sure
+pub record Reaches (s : List ℕ) (w : Word) : Type 0 where
+  pub area : w .address + w .count ≤ length s

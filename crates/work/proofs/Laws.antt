@@ -71,6 +71,7 @@ module _ (t : List ℕ) (c : ℕ) (key body : Bool) where
     where
       n : Counts
       n = countsAt t c
+
       go : (b : Bool) → pick b (allRead t (namedBy c key body (pick b (CountRead.Reads n) CountRead.Fails)) (Sees n)) (Fails UnreadableCount)
           ≡ byCount (pick b (CountRead.Reads n) CountRead.Fails)
       go true = refl

@@ -1,0 +1,2 @@
+-- The model of the reads.
+pub mod Read

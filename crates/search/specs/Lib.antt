@@ -1,0 +1,2 @@
+-- The model of the searches.
+pub mod Search
