@@ -1,0 +1,2 @@
+-- Laws of damage.
+pub mod Areas
