@@ -5,7 +5,7 @@ use Prim.Native.Nat.{ℕ, zero, suc, _+_, _-_, _/_, _<_, _≤_}
 use native.Mathlib.Omega.{arith}
 use native.Mathlib.Decide.{decLt, ℕ-discrete}
 use mathlib.Core.Path.{_≡_, refl, sym, ap, _∙_, subst}
-use mathlib.Core.Bool.{Bool, true}
+use mathlib.Core.Bool.{true}
 use mathlib.Core.List.{List, [], _∷_}
 use mathlib.Core.Logic.{_⊎_, inl, inr, ⊎-elim}
 use lib.ListN.{length, getD}
@@ -50,13 +50,16 @@ byte-at [] i e h = absurd (omega arith)
 byte-at (x ∷ l) zero e h = first-of (isByte x) _ e
 byte-at (x ∷ l) (suc i) e h = byte-at l i (second-of (isByte x) _ e) (omega arith)
 
-pub cell-recorded : (t : List ℕ) (a : Area) (i : ℕ) → readable t a ≡ true → In a i → isByte (getD t i 0) ≡ true
+-- cell i of an area, counted from its first
+pub area-cell : (t : List ℕ) (a : Area) (i : ℕ) → i < a .bytes + 2 → getD (areaCells t a) i 0 ≡ getD t (a .first + i) 0
 unfolding areaCells
+area-cell t a i h = getD-part t (a .first) (a .bytes + 2) i h
+
+pub cell-recorded : (t : List ℕ) (a : Area) (i : ℕ) → readable t a ≡ true → In a i → isByte (getD t i 0) ≡ true
 cell-recorded t a i e h =
     let G = good t a e in
-    let j : a .first + (i - a .first) ≡ i = omega arith in
-    ap (λ (k : ℕ). isByte (getD t k 0)) (sym j)
-    ∙ ap isByte (sym (getD-part t (a .first) (a .bytes + 2) (i - a .first) (omega arith)))
+    let j : i ≡ a .first + (i - a .first) = omega arith in
+    ap (λ (k : ℕ). isByte (getD t k 0)) j ∙ ap isByte (sym (area-cell t a (i - a .first) (omega arith)))
     ∙ byte-at (areaCells t a) (i - a .first) (G .bytes) (omega (arith, G .long))
 
 -- a recorded byte is no marker
@@ -100,7 +103,7 @@ module _ (t : List ℕ) where
       go (yes e) k = subst (λ (x : ℕ). Record t (x + 1)) (sym e) R
       go (no e) k = k (unmarked (p + 1) q R (omega arith) m)
 
--- ---- the records of a soundly written track
+  -- ---- the records of a soundly written track
 
   begun-marker : (p : ℕ) → Begun t (Marker p) → (7 ≤ p) × (getD t p 0 ≡ 512)
   unfolding spotFits markAt
@@ -161,12 +164,12 @@ module _ (t : List ℕ) (c : ℕ) where
 -- ---- the areas of a track
 
 -- the home address, or an area of a record that is there
-data Where (t : List ℕ) (a : Area) : Type 0 where
-  home : a ≡ homeArea → Where t a
-  its : (r : Spot) → Begun t r → Its t (countFirst r) a → Where t a
+data Where (t : List ℕ) : Area → Type 0 where
+  home : Where t homeArea
+  its : {a : Area} (r : Spot) → Begun t r → Its t (countFirst r) a → Where t a
 
 where? : (t : List ℕ) (a : Area) → Own t a → Where t a
-where? t a ownHome = home refl
+where? t a ownHome = home
 where? t a (ownCount r b) = its r b itsCount
 where? t a (ownKey r b k) = its r b (itsKey k)
 where? t a (ownData r b) = its r b itsData
@@ -183,9 +186,9 @@ module _ (t : List ℕ) (S : Sound t) where
   home-before a r b p = omega (arith, its-in t (countFirst r) a p .0, begun-from t r b)
 
   where-apart : (a x : Area) → Where t a → Where t x → (a ≡ x) ⊎ Apart a x
-  where-apart a x (home e) (home f) = inl (e ∙ sym f)
-  where-apart a x (home e) (its r b p) = inr (subst (λ (y : Area). Apart y x) (sym e) (inl (home-before x r b p)))
-  where-apart a x (its r b p) (home f) = inr (subst (λ (y : Area). Apart a y) (sym f) (inr (home-before a r b p)))
+  where-apart a x home home = inl refl
+  where-apart a x home (its r b p) = inr (inl (home-before x r b p))
+  where-apart a x (its r b p) home = inr (inr (home-before a r b p))
   where-apart a x (its r b p) (its r′ b′ p′) =
       let i = its-in t (countFirst r) a p in
       let i′ = its-in t (countFirst r′) x p′ in

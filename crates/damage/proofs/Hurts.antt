@@ -1,10 +1,10 @@
 -- Damage to a soundly written track: the markers stand where they stood, every area but the one hit has its cells, and the one hit is
 -- not readable. Why: two areas of the track have no cell in common, a recorded byte is no marker before or after, and the check of 16
 -- bits finds every change within 16 successive bits. Assumes nothing.
-use Prim.Native.Nat.{ℕ, zero, suc, _+_, _-_, _<_, _≤_, min}
+use Prim.Native.Nat.{ℕ, zero, suc, _+_, _<_, _≤_}
 use native.Mathlib.Omega.{arith}
 use native.Mathlib.Decide.{decLt, decLe}
-use mathlib.Core.Path.{_≡_, refl, sym, ap, ap₂, _∙_, subst}
+use mathlib.Core.Path.{_≡_, refl, sym, ap, _∙_, subst}
 use mathlib.Core.Bool.{Bool, true, false, true≢false}
 use mathlib.Core.List.{List, [], _∷_}
 use mathlib.Core.Logic.{⊎-elim}
@@ -12,9 +12,8 @@ use lib.ListN.{length, getD}
 use lib.Seq.{ext-getD}
 use lib.Dec.{eqb, leb}
 use borrow.Author.Tests.{eqb-true, eq-eqb}
-use Rattle.cells.specs.Choice.{pick, both}
+use Rattle.cells.specs.Choice.{both}
 use Rattle.cells.specs.Cells.{isByte, allBytes, markAt, marks}
-use Rattle.cells.proofs.Laws.{getD-part}
 use Rattle.cells.proofs.Marks.{length-marks, getD-marks, mark-none}
 use Rattle.cells.proofs.Tests.{first-of, second-of, both-of}
 use Rattle.house_check.specs.Area.{checkBytes}
@@ -26,7 +25,7 @@ use Rattle.areas.specs.Areas.{area, areaCells, readable}
 use Rattle.areas.proofs.Laws.{length-areaCells}
 use Rattle.sound.specs.Sound.{Sound}
 use Rattle.damage.specs.Damage.{Own, In, Damaged, partNo, sameArea}
-use Rattle.damage.proofs.Areas.{good, cell-recorded, no-marker, Apart, own-readable, own-apart}
+use Rattle.damage.proofs.Areas.{Good, good, area-cell, cell-recorded, no-marker, Apart, own-readable, own-apart}
 
 -- t′ is t with every hit area of it made unreadable and all its other areas as they were; no area lost a recorded byte
 pub record Hurt (hit : Area → Bool) (t t′ : List ℕ) : Type 0 where
@@ -80,11 +79,6 @@ unfolding allBytes
 all-bytes [] f = refl
 all-bytes (x ∷ l) f = both-of (f 0 (omega arith)) (all-bytes l (λ i h. f (suc i) (omega arith)))
 
--- cell i of an area
-area-cell : (t : List ℕ) (a : Area) (i : ℕ) → i < a .bytes + 2 → getD (areaCells t a) i 0 ≡ getD t (a .first + i) 0
-unfolding areaCells
-area-cell t a i h = getD-part t (a .first) (a .bytes + 2) i h
-
 -- ---- damage to one area
 
 module _ (s : ℕ) (x : Area) (t t′ : List ℕ) (S : Sound t) (o : Own t x) (D : Damaged s x t t′) where
@@ -99,18 +93,20 @@ module _ (s : ℕ) (x : Area) (t t′ : List ℕ) (S : Sound t) (o : Own t x) (D
       ext-getD false (marks t′) (marks t) (length-marks t′ ∙ D .long ∙ sym (length-marks t))
       (λ i h. getD-marks t′ i ∙ mark-same i (in? x i) ∙ sym (getD-marks t i))
 
-  length-same : (a : Area) → length (areaCells t′ a) ≡ length (areaCells t a)
-  length-same a = length-areaCells t′ a ∙ ap (λ (n : ℕ). min (a .bytes + 2) (n - a .first)) (D .long) ∙ sym (length-areaCells t a)
+  own-good : (a : Area) → Own t a → Good (a .bytes) (areaCells t a)
+  own-good a o′ = good t a (own-readable t S a o′)
 
   length-full : (a : Area) → Own t a → length (areaCells t′ a) ≡ a .bytes + 2
-  length-full a o′ = length-same a ∙ good t a (own-readable t S a o′) .long
+  length-full a o′ = omega (arith, length-areaCells t′ a, length-areaCells t a, D .long, own-good a o′ .long)
 
   apart-kept : (a : Area) → Own t a → Apart a x → areaCells t′ a ≡ areaCells t a
   apart-kept a o′ k =
-      ext-getD 0 (areaCells t′ a) (areaCells t a) (length-same a)
+      ext-getD 0 (areaCells t′ a) (areaCells t a) (length-full a o′ ∙ sym (own-good a o′ .long))
       (λ i h.
       let n : i < a .bytes + 2 = omega (arith, length-full a o′) in
-      area-cell t′ a i n ∙ D .others (a .first + i) (λ z. ⊎-elim (λ q. omega (arith, z .0, z .1)) (λ q. omega (arith, z .0, z .1)) k) ∙ sym (area-cell t a i n))
+      area-cell t′ a i n
+      ∙ D .others (a .first + i) (λ z. ⊎-elim (λ q. omega (arith, z .0, z .1)) (λ q. omega (arith, z .0, z .1)) k)
+      ∙ sym (area-cell t a i n))
 
   cells-kept : (a : Area) → Own t a → sameArea x a ≡ false → areaCells t′ a ≡ areaCells t a
   cells-kept a o′ e =
@@ -119,7 +115,7 @@ module _ (s : ℕ) (x : Area) (t t′ : List ℕ) (S : Sound t) (o : Own t x) (D
   hit-broken : readable t′ x ≡ false
   unfolding readable
   hit-broken =
-      let G = good t x (own-readable t S x o) in
+      let G = own-good x o in
       burst-cells (x .bytes) s (areaCells t x) (areaCells t′ x) (G .long) (length-full x o) (D .bits) (G .agree)
 
   hit-filled : allBytes (areaCells t′ x) ≡ true
@@ -131,7 +127,7 @@ module _ (s : ℕ) (x : Area) (t t′ : List ℕ) (S : Sound t) (o : Own t x) (D
 
   all-filled : (a : Area) → Own t a → (b : Bool) → sameArea x a ≡ b → allBytes (areaCells t′ a) ≡ true
   all-filled a o′ true e = subst (λ (y : Area). allBytes (areaCells t′ y) ≡ true) (same-area x a e) hit-filled
-  all-filled a o′ false e = ap allBytes (cells-kept a o′ e) ∙ good t a (own-readable t S a o′) .bytes
+  all-filled a o′ false e = ap allBytes (cells-kept a o′ e) ∙ own-good a o′ .bytes
 
 pub damaged-hurt : (s : ℕ) (x : Area) (t t′ : List ℕ) → Sound t → Own t x → Damaged s x t t′ → Hurt (sameArea x) t t′
 damaged-hurt s x t t′ S o D = record {

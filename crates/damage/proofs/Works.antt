@@ -2,7 +2,7 @@
 -- areas are read in order, and which they are is told by the count alone; up to the first one hit all have their cells, so the count
 -- tells the same. Assumes nothing.
 use Prim.Native.Nat.{ℕ}
-use mathlib.Core.Path.{_≡_, refl, sym, ap, ap₂, _∙_, subst}
+use mathlib.Core.Path.{_≡_, refl, sym, ap, ap₂, _∙_}
 use mathlib.Core.Bool.{Bool, true, false, true≢false, false≢true}
 use mathlib.Core.List.{List, [], _∷_, _++_}
 use lib.ListN.{take}
@@ -17,7 +17,7 @@ use Rattle.areas.specs.declared.Area.{Area}
 use Rattle.areas.specs.declared.Counts.{Counts}
 use Rattle.areas.specs.declared.CountRead.{CountRead}
 use Rattle.areas.specs.declared.CountRead.the-variants as CountRead
-use Rattle.areas.specs.Areas.{areaCells, readable, areaBytes, rowOf, homeArea, countArea, countsOf, countsAt, readCount, keyArea, dataArea}
+use Rattle.areas.specs.Areas.{readable, areaBytes, rowOf, homeArea, countArea, countsOf, countsAt, readCount, keyArea, dataArea}
 use Rattle.hunt.specs.declared.Spot.{Spot}
 use Rattle.hunt.specs.Hunt.{countFirst}
 use Rattle.work.specs.declared.Work.{Work}
@@ -30,6 +30,7 @@ use Rattle.damage.proofs.Hurts.{Hurt}
 
 -- ---- what work reads are areas of the track
 
+-- every area of a list is the track's
 abbrev pub OwnAll : List ℕ → List Area → Type 0
 OwnAll t [] = Unit {0}
 OwnAll t (a ∷ l) = Own t a × OwnAll t l
@@ -47,17 +48,25 @@ pub work-own-home : (t : List ℕ) → OwnAll t (workReads t Home)
 unfolding workReads
 work-own-home t = (ownHome, tt)
 
-pub work-own : (t : List ℕ) (r : Spot) (key body : Bool) → Begun t r → OwnAll t (workReads t (Record (countFirst r) key body))
-unfolding workReads readCount namedBy named
-work-own t r key body b =
+own-named : (t : List ℕ) (r : Spot) (key body : Bool) → Begun t r → OwnAll t (named (countFirst r) key body (countsAt t (countFirst r)))
+unfolding named
+own-named t r key body b =
     let c : ℕ = countFirst r in
     let n : Counts = countsAt t c in
-    (ownCount r b,
-    pick-all (λ (x : CountRead). OwnAll t (namedBy c key body x)) (readable t (countArea c)) {x = CountRead.Reads n} {y = CountRead.Fails}
-    (own-append t (areaIf (both key (ltb 0 (n .kl))) (keyArea c n)) (areaIf (both body (ltb 0 (n .dl))) (dataArea c n))
-    (own-if t (both key (ltb 0 (n .kl))) (keyArea c n) (λ e. ownKey r b (λ z. omega (arith, ltb-true 0 (n .kl) (second-of key _ e)))))
-    (own-if t (both body (ltb 0 (n .dl))) (dataArea c n) (λ e. ownData r b)))
-    tt)
+    let withKey : Bool = both key (ltb 0 (n .kl)) in
+    let withData : Bool = both body (ltb 0 (n .dl)) in
+    own-append t (areaIf withKey (keyArea c n)) (areaIf withData (dataArea c n))
+    (own-if t withKey (keyArea c n) (λ e. ownKey r b (λ z. omega (arith, ltb-true 0 (n .kl) (second-of key (ltb 0 (n .kl)) e)))))
+    (own-if t withData (dataArea c n) (λ e. ownData r b))
+
+-- a count that is not readable names nothing, so this holds of any track
+pub work-own : (t : List ℕ) (r : Spot) (key body : Bool) → Begun t r → OwnAll t (workReads t (Record (countFirst r) key body))
+unfolding workReads readCount namedBy
+work-own t r key body b = (
+  ownCount r b,
+  pick-all (λ (x : CountRead). OwnAll t (namedBy (countFirst r) key body x)) (readable t (countArea (countFirst r)))
+      {x = CountRead.Reads (countsAt t (countFirst r))} {y = CountRead.Fails} (own-named t r key body b) tt,
+)
 
 -- ---- any, taken apart
 
@@ -148,10 +157,12 @@ module _ (hit : Area → Bool) (t t′ : List ℕ) (H : Hurt hit t t′) where
   works-broken (Record c key body) o e = go (hit (countArea c)) refl
     where
       go : (b : Bool) → hit (countArea c) ≡ b → (a : Area) × (hit a ≡ true) × (gets t′ (Record c key body) ≡ Fails (rowOf (a .part)))
-      go true h =
-          (countArea c, h,
-          ap (λ (b : Bool). pick b (allRead t′ (namedBy c key body (readCount t′ c)) (Sees (countsAt t′ c))) (Fails (rowOf (countArea c .part))))
-          (H .broken (countArea c) (o .0) h))
+      go true h = (
+        countArea c,
+        h,
+        ap (λ (b : Bool). pick b (allRead t′ (namedBy c key body (readCount t′ c)) (Sees (countsAt t′ c))) (Fails (rowOf (countArea c .part))))
+            (H .broken (countArea c) (o .0) h),
+      )
       go false h =
           let r = list-broken (workReads t (Record c key body)) o e (Sees (countsAt t c)) in
           (r .0, r .1, kept-gets c (o .0) h key body ∙ r .2)

@@ -1,6 +1,6 @@
 -- Demand 3: one or more recorded bits of one area of a soundly written track are changed, all within 16 successive bits; the areas of
 -- such a track; which areas are hit. Assumes nothing.
-use Prim.Native.Nat.{ℕ, _+_, _/_, _<_, _≤_}
+use Prim.Native.Nat.{ℕ, _+_, _<_, _≤_}
 use mathlib.Core.Path.{_≡_}
 use mathlib.Core.Bool.{Bool, true, false}
 use mathlib.Core.List.{List, [], _∷_}
