@@ -1,0 +1,4 @@
+-- Laws of damage.
+pub mod Areas
+pub mod Hurts
+pub mod Works

@@ -1,0 +1,2 @@
+-- The model of damage.
+pub mod Damage
