@@ -1,11 +1,12 @@
 -- Laws of lists and cells that every crate above cites. Assumes nothing.
-use Prim.Native.Nat.{ℕ, zero, suc, _+_, _-_, _<_, _≤_}
+use Prim.Native.Nat.{ℕ, zero, suc, _+_, _-_, _<_, _≤_, min}
 use mathlib.Core.Path.{_≡_, refl, sym, ap, ap₂, _∙_}
 use mathlib.Core.List.{List, [], _∷_, _++_, append-nil, append-assoc}
 use native.Mathlib.Omega.{arith}
 use native.Mathlib.Nat.{add-zero}
+use native.Mathlib.Decide.{decLe}
 use lib.ListN.{length, getD, take, drop, set, length-append, length-take, length-drop, length-map, take-append-drop, List·getD-map, List·getD-append}
-use lib.Seq.{length-take-le, take-append-seam, take-at, drop-at, drop-append-add, drop-drop, getD-append-add, drop-cons, set-at, append-snoc, getD-take, getD-drop}
+use lib.Seq.{length-take-le, take-take, take-all, take-append-seam, take-at, drop-at, drop-append-add, drop-drop, getD-append-add, drop-cons, set-at, append-snoc, getD-take, getD-drop}
 use Rattle.cells.specs.Bytes.{part, overlay, padded}
 use Rattle.cells.specs.Cells.{byteOf, bytesOf}
 
@@ -98,6 +99,14 @@ take-append (suc n) [] y = let e : suc n ≡ suc n - length {A = ℕ} [] = omega
 take-append (suc n) (a ∷ x) y =
     let e : n - length x ≡ suc n - length (a ∷ x) = omega arith in
     ap (λ (l : List ℕ). a ∷ l) (take-append n x y) ∙ ap (λ (k : ℕ). a ∷ take n x ++ take k y) e
+
+-- so many of so many
+pub take-min : (m n : ℕ) (l : List ℕ) → take m (take n l) ≡ take (min m n) l
+take-min m n l = go (decLe m n)
+  where
+    go : Dec (m ≤ n) → take m (take n l) ≡ take (min m n) l
+    go (yes h) = let e : m ≡ min m n = omega arith in take-take m n l h ∙ ap (λ (k : ℕ). take k l) e
+    go (no h) = let e : n ≡ min m n = omega arith in take-all m (take n l) (omega (arith, length-take n l)) ∙ ap (λ (k : ℕ). take k l) e
 
 -- .. laid over, one list after the other
 pub overlay-two : (l : List ℕ) (at n m : ℕ) (x y : List ℕ) → at + n ≤ length l → m ≡ length (take n x)

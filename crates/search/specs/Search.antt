@@ -23,7 +23,7 @@ use Rattle.held.specs.declared.Stands.{Stands}
 use Rattle.held.specs.declared.Orders.{Orders}
 use Rattle.work.specs.declared.Got.{Got}
 use Rattle.work.specs.declared.Got.the-variants.{Sees, Fails}
-use Rattle.work.specs.Work.{Seen, gets, sawBy, sent}
+use Rattle.work.specs.Work.{Seen, gets, sawBy, idOf}
 use Rattle.outcome.specs.declared.Ending.the-variants.{Normal, Satisfied}
 use Rattle.outcome.specs.declared.Done.{Done}
 use Rattle.outcome.specs.Outcome.{done, placed, after, checked}
@@ -42,7 +42,7 @@ idBytes = 5
 
 unfoldable pub fieldOf : Search → Counts → Seen → List ℕ
 fieldOf SearchHome n x = drop flagBytes (x .home)
-fieldOf (SearchId h) n x = take idBytes (sent n)
+fieldOf (SearchId h) n x = idOf (n .cc) (n .hh) (n .r)
 fieldOf (SearchKey h) n x = x .key
 
 -- how many bytes it has

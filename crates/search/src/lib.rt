@@ -12,8 +12,8 @@ use plan::Plan;
 use words::Word;
 use work::Got;
 ghost use mathlib.Core.Path.{_≡_};
-ghost use Prim.Native.Nat.{_+_, _≤_, min};
-ghost use lib.ListN.{length, take};
+ghost use Prim.Native.Nat.{_+_, _<_, _≤_, min};
+ghost use lib.ListN.{length, getD, take};
 ghost use Rattle.cells.specs.Bytes.{number, part};
 ghost use Rattle.cells.specs.Cells.{marks};
 ghost use Rattle.words.specs.Words.{Reaches};
@@ -23,10 +23,10 @@ ghost use Rattle.cells.specs.Choice.{pick};
 ghost use Rattle.commands.specs.declared.How.the-variants.{IfEqual, IfHigh, IfEqualOrHigh};
 ghost use Rattle.outcome.specs.declared.Ending.the-variants.{Normal, Satisfied};
 ghost use Rattle.work.specs.declared.Got.the-variants.{Sees};
-ghost use Rattle.work.specs.Work.{sawBy};
+ghost use Rattle.work.specs.Work.{sawBy, idOf};
 ghost use Rattle.plan.specs.declared.Plan.the-variants.{Works};
 ghost use Rattle.plan.specs.Plan.{SelectedOn, searchWork};
-ghost use Rattle.search.specs.Search.{Sought, fieldOf, fieldLength, howOf, comparison, satisfies, found, equalOnly, wholly, searched, searchGot, searchBy, searches};
+ghost use Rattle.search.specs.Search.{Sought, idBytes, fieldOf, fieldLength, howOf, comparison, satisfies, found, equalOnly, wholly, searched, searchGot, searchBy, searches};
 
 fn how_of(c: Search) -> How
     ensures { λ r. ⌜ r ≡ howOf c ⌝ }
@@ -129,14 +129,28 @@ fn lesser(a: u16, b: u16) -> u16
     b
 }
 
+// Byte j of an ID, CCHHR.
+fn id_byte(cc: u16, hh: u16, r: u8, j: usize) -> u8
+    requires { ⌜ j < idBytes ⌝ }
+    ensures { λ b. ⌜ b ≡ getD (idOf cc hh r) j 0 ⌝ }
+{
+    match j {
+        0 => (cc / 256) as u8,
+        1 => (cc % 256) as u8,
+        2 => (hh / 256) as u8,
+        3 => (hh % 256) as u8,
+        _ => r,
+    }
+}
+
 // The first m bytes of an ID, against those at an address of storage, as unsigned numbers.
-fn compare_id(id: [u8; 8], storage: &[u8], address: usize, m: usize) -> Compared
-    requires { ⌜ (address + m ≤ length (now storage)) × (m ≤ 5) ⌝ }
-    ensures { λ r. ⌜ r ≡ compared (number (take m id)) (number (part (now (storage .entry)) address m)) ⌝ }
+fn compare_id(cc: u16, hh: u16, r: u8, storage: &[u8], address: usize, m: usize) -> Compared
+    requires { ⌜ (address + m ≤ length (now storage)) × (m ≤ idBytes) ⌝ }
+    ensures { λ x. ⌜ x ≡ compared (number (take m (idOf cc hh r))) (number (part (now (storage .entry)) address m)) ⌝ }
 {
     let mut j = 0;
     while j < m {
-        let x = id[j];
+        let x = id_byte(cc, hh, r, j);
         let y = storage[address + j];
         if x < y {
             return Compared::Low;
@@ -176,7 +190,7 @@ fn compare_field(
     let at = w.address as usize;
     match c {
         Search::SearchHome => compare::compare(track, 1, storage, at, m),
-        Search::SearchId(_) => compare_id(work::sent(n), storage, at, m),
+        Search::SearchId(_) => compare_id(n.cc, n.hh, n.r, storage, at, m),
         Search::SearchKey(_) => compare::compare(track, place as usize + 11, storage, at, m),
     }
 }

@@ -78,7 +78,10 @@ saw t (a ∷ l) = seeing (a .part) (areaBytes t a) (saw t l)
 abbrev pub sawBy : List ℕ → Work → Seen
 sawBy t w = saw t (workReads t w)
 
--- ---- counts move as the 8 bytes CCHHR, KL, DL
+-- ---- counts move as the 8 bytes CCHHR, KL, DL; the first 5 are the ID
+
+unfoldable pub idOf : ℕ → ℕ → ℕ → List ℕ
+idOf cc hh r = cc / 256 ∷ cc % 256 ∷ hh / 256 ∷ hh % 256 ∷ r ∷ []
 
 unfoldable pub sent : Counts → List ℕ
-sent n = n .cc / 256 ∷ n .cc % 256 ∷ n .hh / 256 ∷ n .hh % 256 ∷ n .r ∷ n .kl ∷ n .dl / 256 ∷ n .dl % 256 ∷ []
+sent n = idOf (n .cc) (n .hh) (n .r) ++ (n .kl ∷ n .dl / 256 ∷ n .dl % 256 ∷ [])

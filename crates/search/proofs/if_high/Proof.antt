@@ -1,32 +1,29 @@
+-- Each arm knows which it is, and gives what the model has there. Assumes nothing.
+use Rattle.search.specs.Search.{satisfies}
 use borrow.Author.Needs.{needs}
 use Rattle.search.proofs.if_high.Statement.{statement}
 use Rattle.search.proofs.if_high.Tie as tie
-use Rattle.search.proofs.if_high.Reads as reads
-use Rattle.search.proofs.if_high.Lts as lts
 
--- src/lib.rt:55:26
 enum-told : tie.Need-enum-told
 enum-told c = search needs
 
--- src/lib.rt:56:28
 enum-told-2 : tie.Need-enum-told-2
 enum-told-2 c = search needs
 
--- src/lib.rt:57:27
 enum-told-3 : tie.Need-enum-told-3
 enum-told-3 c = search needs
 
--- src/lib.rt:51:1
 returns : tie.Need-returns
-returns c = ?
+unfolding satisfies
+returns c = rw (c .enum-told .given .1)
 
--- src/lib.rt:51:1
 returns-2 : tie.Need-returns-2
-returns-2 c = ?
+unfolding satisfies
+returns-2 c = rw (c .enum-told2 .given .1)
 
--- src/lib.rt:51:1
 returns-3 : tie.Need-returns-3
-returns-3 c = ?
+unfolding satisfies
+returns-3 c = rw (c .enum-told3 .given .1)
 
 pub if-high-spec : {M : Type 1} → statement M
 if-high-spec = tie.close (tie.spec enum-told enum-told-2 enum-told-3 returns returns-2 returns-3)

@@ -1,47 +1,38 @@
+-- Each arm knows which it is, and gives what the model has there. Assumes nothing.
+use Rattle.search.specs.Search.{satisfies}
 use borrow.Author.Needs.{needs}
 use Rattle.search.proofs.satisfies.Statement.{statement}
 use Rattle.search.proofs.satisfies.Tie as tie
-use Rattle.search.proofs.satisfies.Reads as reads
-use Rattle.search.proofs.satisfies.Lts as lts
-use Rattle.search.proofs.if_equal.Reads as if-equal-reads
-use Rattle.search.proofs.if_equal_or_high.Reads as if-equal-or-high-reads
-use Rattle.search.proofs.if_high.Reads as if-high-reads
 
--- src/lib.rt:75:25
 enum-told : tie.Need-enum-told
 enum-told c = search needs
 
--- src/lib.rt:75:25
 if-equal-requires : tie.Need-if-equal-requires
 if-equal-requires c κs = search needs
 
--- src/lib.rt:76:24
 enum-told-2 : tie.Need-enum-told-2
 enum-told-2 c = search needs
 
--- src/lib.rt:76:24
 if-high-requires : tie.Need-if-high-requires
 if-high-requires c κs = search needs
 
--- src/lib.rt:77:31
 enum-told-3 : tie.Need-enum-told-3
 enum-told-3 c = search needs
 
--- src/lib.rt:77:31
 if-equal-or-high-requires : tie.Need-if-equal-or-high-requires
 if-equal-or-high-requires c κs = search needs
 
--- src/lib.rt:71:1
 returns : tie.Need-returns
-returns c = ?
+unfolding satisfies
+returns c = rw (c .before .enum-told .given .1) (c .if-equal .ensures)
 
--- src/lib.rt:71:1
 returns-2 : tie.Need-returns-2
-returns-2 c = ?
+unfolding satisfies
+returns-2 c = rw (c .before .enum-told2 .given .1) (c .if-high .ensures)
 
--- src/lib.rt:71:1
 returns-3 : tie.Need-returns-3
-returns-3 c = ?
+unfolding satisfies
+returns-3 c = rw (c .before .enum-told3 .given .1) (c .if-equal-or-high .ensures)
 
 pub satisfies-spec : {M : Type 1} → statement M
 satisfies-spec =

@@ -1,6 +1,6 @@
 -- `work::sent` meets its contract: a line a byte. Assumes nothing.
 use mathlib.Core.Path.{refl}
-use Rattle.work.specs.Work.{sent}
+use Rattle.work.specs.Work.{idOf, sent}
 use borrow.Author.Needs.{needs}
 use Rattle.work.proofs.sent.Statement.{statement}
 use Rattle.work.proofs.sent.Tie as tie
@@ -24,7 +24,7 @@ cast-t13 : tie.Need-cast-t13
 cast-t13 c = search needs
 
 returns : tie.Need-returns
-unfolding sent
+unfolding sent idOf
 returns c = refl
 
 pub sent-spec : {M : Type 1} → statement M
