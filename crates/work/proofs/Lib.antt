@@ -1,2 +1,3 @@
 -- Laws of what work reads.
 pub mod Laws
+pub mod Seen
