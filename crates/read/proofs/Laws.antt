@@ -1,7 +1,7 @@
 -- Laws of the reads: bytes put into storage one behind the other, the bytes that a read names where they lie, and what a read leaves.
 -- Assumes nothing.
 use Prim.Native.Nat.{ℕ, _+_, _-_, _<_, _≤_, min}
-use mathlib.Core.Path.{_≡_, refl, sym, ap, ap₂, _∙_}
+use mathlib.Core.Path.{_≡_, refl, sym, ap, ap₂, _∙_, subst}
 use mathlib.Core.Bool.{Bool, true, false}
 use mathlib.Core.List.{List, [], _∷_, _++_, append-assoc}
 use native.Mathlib.Numerals.{add-one}
@@ -15,6 +15,7 @@ use Rattle.cells.specs.Cells.{byteOf, bytesOf}
 use Rattle.cells.proofs.Laws.{length-bytesOf, getD-bytesOf, take-bytesOf, length-part, getD-part, overlay-snoc, overlay-two}
 use Rattle.rows.specs.declared.Row.{Row}
 use Rattle.words.specs.declared.Word.{Word}
+use Rattle.areas.specs.declared.Area.{Area}
 use Rattle.areas.specs.declared.Counts.{Counts}
 use Rattle.areas.specs.Areas.{keyArea, dataArea}
 use Rattle.commands.specs.declared.Read.{Read}
@@ -33,7 +34,7 @@ use Rattle.plan.specs.declared.Job.{Job}
 use Rattle.plan.specs.declared.Plan.{Plan}
 use Rattle.plan.specs.declared.Plan.the-variants.{Refuses, Works}
 use Rattle.plan.specs.Plan.{readWork, readPlan}
-use Rattle.read.specs.Read.{offered, namedBytes, isEmpty, ReadDone, readDone, moved, readGot, readBy, reads, Looked, keyBytes, bodyBytes, LieIf, KeyData}
+use Rattle.read.specs.Read.{offered, namedBytes, isEmpty, ReadDone, readDone, moved, readGot, readBy, reads, Looked, keyBytes, bodyBytes, LieIf, KeyData, Puts}
 
 -- ---- bytes put into storage
 
@@ -52,7 +53,7 @@ unfolding part
 long t first n h = length-bytesOf (part t first n) ∙ length-take n (drop first t) ∙ go (decLt 0 n)
   where
     go : Dec (0 < n) → min n (length (drop first t)) ≡ n
-    go (yes k) = omega (arith, length-drop first t, h k)
+    go (yes k) = omega (arith, length-drop first t, h .ends k)
     go (no k) = omega arith
 
 pub cells-more : (t : List ℕ) (first m : ℕ) (l : List ℕ) (at i : ℕ) → LieIf t first m → at + m ≤ length l → i < m
@@ -68,33 +69,36 @@ pub cells-all : (t : List ℕ) (first m : ℕ) (l : List ℕ) (at i : ℕ) (out 
 cells-all t first m l at i out h e p =
     p ∙ ap (overlay l at) (take-all i (bytesOf (part t first m)) (omega (arith, long t first m h)))
 
--- so many of an area's bytes are the bytes of its first cells
-pub area-taken : (t : List ℕ) (first n count m : ℕ) → m ≡ min count n → bytesOf (part t first m) ≡ take count (bytesOf (part t first n))
-unfolding part
-area-taken t first n count m e = go (decLt n count) ∙ sym (take-bytesOf count (take n (drop first t)))
-  where
-    go : Dec (n < count) → bytesOf (take m (drop first t)) ≡ bytesOf (take count (take n (drop first t)))
-    go (yes h) =
-        ap (λ (k : ℕ). bytesOf (take k (drop first t))) {x = m} {y = n} (omega arith)
-        ∙ ap bytesOf (sym (take-all count (take n (drop first t)) (omega (arith, length-take n (drop first t)))))
-    go (no h) =
-        ap (λ (k : ℕ). bytesOf (take k (drop first t))) {x = m} {y = count} (omega arith)
-        ∙ ap bytesOf (sym (take-take count n (drop first t) (omega arith)))
+-- of an area's n bytes, those of its first cells
+module _ (t : List ℕ) (first n count m : ℕ) (h : LieIf t first n) (e : m ≡ min count n) where
+  pub lies-less : LieIf t first m
+  lies-less = record { ends = λ q. omega (arith, h .ends (omega arith)) }
 
-pub area-long : (t : List ℕ) (first n count m : ℕ) → LieIf t first n → m ≡ min count n → m ≡ length (take count (bytesOf (part t first n)))
-area-long t first n count m h e = e ∙ ap (min count) (sym (long t first n h)) ∙ sym (length-take count (bytesOf (part t first n)))
+  area-taken : bytesOf (part t first m) ≡ take count (bytesOf (part t first n))
+  unfolding part
+  area-taken = go (decLt n count) ∙ sym (take-bytesOf count (take n (drop first t)))
+    where
+      go : Dec (n < count) → bytesOf (take m (drop first t)) ≡ bytesOf (take count (take n (drop first t)))
+      go (yes h) =
+          ap (λ (k : ℕ). bytesOf (take k (drop first t))) {x = m} {y = n} (omega arith)
+          ∙ ap bytesOf (sym (take-all count (take n (drop first t)) (omega (arith, length-take n (drop first t)))))
+      go (no h) =
+          ap (λ (k : ℕ). bytesOf (take k (drop first t))) {x = m} {y = count} (omega arith)
+          ∙ ap bytesOf (sym (take-take count n (drop first t) (omega arith)))
 
--- the first of an area's bytes lie on the track if all do
-pub lies-less : (t : List ℕ) (first n m : ℕ) → LieIf t first n → m ≤ n → LieIf t first m
-lies-less t first n m h k = λ q. omega (arith, h (omega arith))
+  pub area-put : (l out : List ℕ) (at : ℕ) → out ≡ overlay l at (bytesOf (part t first m)) → Puts l at count (bytesOf (part t first n)) out m
+  area-put l out at p = record {
+    storage = p ∙ ap (overlay l at) area-taken;
+    moved = e ∙ ap (min count) (sym (long t first n h)) ∙ sym (length-take count (bytesOf (part t first n)));
+  }
+
+-- the same area
+pub lies-by : (t : List ℕ) (a b : Area) (n : ℕ) → a ≡ b → LieIf t (b .first) n → LieIf t (a .first) n
+lies-by t a b n e h = subst (λ (x : Area). LieIf t (x .first) n) (sym e) h
 
 -- so many of a count's 8 bytes
 module _ (n : Counts) (count m : ℕ) (e : m ≡ min count 8) where
-  pub sent-long : m ≡ length (take count (sent n))
-  unfolding sent
-  sent-long = e ∙ sym (length-take count (sent n))
-
-  pub sent-taken : take m (sent n) ≡ take count (sent n)
+  sent-taken : take m (sent n) ≡ take count (sent n)
   unfolding sent
   sent-taken = go (decLt 8 count)
     where
@@ -102,11 +106,29 @@ module _ (n : Counts) (count m : ℕ) (e : m ≡ min count 8) where
       go (yes h) = take-all m (sent n) (omega arith) ∙ sym (take-all count (sent n) (omega arith))
       go (no h) = ap (λ (k : ℕ). take k (sent n)) {x = m} {y = count} (omega arith)
 
+  pub sent-put : (l v out : List ℕ) (at : ℕ) → v ≡ sent n → out ≡ overlay l at (take m v) → Puts l at count (sent n) out m
+  unfolding sent
+  sent-put l v out at p q = record {
+    storage = q ∙ ap (λ (x : List ℕ). overlay l at (take m x)) p ∙ ap (overlay l at) sent-taken;
+    moved = e ∙ sym (length-take count (sent n));
+  }
+
 -- one list's elements behind another's, as many as there is room for
-pub put-two : (l mid out : List ℕ) (at n m : ℕ) (x y : List ℕ) → at + n ≤ length l → mid ≡ overlay l at (take n x) → m ≡ length (take n x)
-    → out ≡ overlay mid (at + m) (take (n - m) y) → out ≡ overlay l at (take n (x ++ y))
-put-two l mid out at n m x y h p e q =
-    q ∙ ap (λ (z : List ℕ). overlay z (at + m) (take (n - m) y)) p ∙ overlay-two l at n m x y h e
+module _ (l : List ℕ) (at n : ℕ) (x mid : List ℕ) (m : ℕ) (p : Puts l at n x mid m) where
+  pub puts-fit : m ≤ n
+  puts-fit = omega (arith, p .moved, length-take n x)
+
+  pub put-two : (y out : List ℕ) → at + n ≤ length l → out ≡ overlay mid (at + m) (take (n - m) y) → out ≡ overlay l at (take n (x ++ y))
+  put-two y out h q =
+      q ∙ ap (λ (z : List ℕ). overlay z (at + m) (take (n - m) y)) (p .storage) ∙ overlay-two l at n m x y h (p .moved)
+
+pub put-areas : (t : List ℕ) (k d : Area) (c : ℕ) (n : Counts) (l mid out : List ℕ) (at count m i : ℕ) → k ≡ keyArea c n → d ≡ dataArea c n
+    → at + count ≤ length l → Puts l at count (bytesOf (part t (k .first) (n .kl))) mid m
+    → Puts mid (at + m) (count - m) (bytesOf (part t (d .first) (n .dl))) out i
+    → out ≡ overlay l at (take count (keyBytes t c n ++ bodyBytes t c n))
+put-areas t k d c n l mid out at count m i x y h p q =
+    put-two l at count _ mid m p _ out h (q .storage)
+    ∙ ap₂ (λ (a b : Area). overlay l at (take count (bytesOf (part t (a .first) (n .kl)) ++ bytesOf (part t (b .first) (n .dl))))) x y
 
 -- ---- the bytes that a read names, where they lie
 
@@ -122,7 +144,10 @@ module _ (t : List ℕ) (c : ℕ) (n : Counts) where
   -- all of a record is read
   module _ (e : gets t (Record c true true) ≡ Sees n) where
     all-lie : KeyData t c n
-    all-lie = record { key = key-lies t c true true n e refl; body = body-lies t c true true n e refl }
+    all-lie = record {
+      key = record { ends = key-lies t c true true n e refl };
+      body = record { ends = body-lies t c true true n e refl };
+    }
 
     two-seen : sawBy t (Record c true true) .key ++ sawBy t (Record c true true) .body ≡ keyBytes t c n ++ bodyBytes t c n
     two-seen = ap₂ (λ (x y : List ℕ). x ++ y) (record-key t c true true n e) (record-body t c true true n e)
@@ -148,10 +173,10 @@ module _ (t : List ℕ) (c : ℕ) (n : Counts) where
 
   named-long : (r : Read) → gets t (readWork r c) ≡ Sees n → length (bytesFor t r c n) ≡ namedBytes r n
   unfolding readWork namedBytes sent
-  named-long ReadHome e = long t 0 5 (λ _. omega (arith, home-lies t n e))
+  named-long ReadHome e = long t 0 5 (record { ends = λ _. omega (arith, home-lies t n e) })
   named-long ReadZero e = three-long (all-lie e)
   named-long ReadCount e = refl
-  named-long ReadData e = long t _ (n .dl) (body-lies t c false true n e refl)
+  named-long ReadData e = long t _ (n .dl) (record { ends = body-lies t c false true n e refl })
   named-long ReadKeyData e = two-long (all-lie e)
   named-long ReadAll e = three-long (all-lie e)
 
@@ -162,10 +187,10 @@ module _ (t : List ℕ) (r : Read) (c : ℕ) (n : Counts) (look : Looked t r c n
   record-lies p = all-lie t c n (ap (gets t) (sym p) ∙ look .sees)
 
   pub data-lies : readWork r c ≡ Record c false true → LieIf t (dataArea c n .first) (n .dl)
-  data-lies p = body-lies t c false true n (ap (gets t) (sym p) ∙ look .sees) refl
+  data-lies p = record { ends = body-lies t c false true n (ap (gets t) (sym p) ∙ look .sees) refl }
 
   pub home-on : readWork r c ≡ Home → LieIf t 0 5
-  home-on p = λ _. omega (arith, home-lies t n (ap (gets t) (sym p) ∙ look .sees))
+  home-on p = record { ends = λ _. omega (arith, home-lies t n (ap (gets t) (sym p) ∙ look .sees)) }
 
   -- these bytes put into storage are those that the read names
   pub put-named : (x : Read) (l out : List ℕ) (at count : ℕ) → r ≡ x → out ≡ overlay l at (take count (bytesFor t x c n))

@@ -1,38 +1,30 @@
+-- `read::put_all` meets its contract: what is put of the key and of the data lies behind what was put of the count. Assumes nothing.
+use native.Mathlib.Omega.{arith}
+use Rattle.read.proofs.Laws.{puts-fit, put-two}
 use borrow.Author.Needs.{needs}
 use Rattle.read.proofs.put_all.Statement.{statement}
 use Rattle.read.proofs.put_all.Tie as tie
-use Rattle.read.proofs.put_all.Reads as reads
-use Rattle.read.proofs.put_all.Lts as lts
-use Rattle.read.proofs.put_count.Reads as put-count-reads
-use Rattle.read.proofs.put_key_data.Reads as put-key-data-reads
 
--- src/lib.rt:127:9
 put-count-requires : tie.Need-put-count-requires
 put-count-requires c κs = search needs
 
--- src/lib.rt:128:45
 cast-put-key-data : tie.Need-cast-put-key-data
 cast-put-key-data c = search needs
 
--- src/lib.rt:128:40
 add-put-key-data : tie.Need-add-put-key-data
 add-put-key-data c = search needs
 
--- src/lib.rt:128:57
 sub-put-key-data : tie.Need-sub-put-key-data
-sub-put-key-data c = ?
+sub-put-key-data c = search (needs, puts-fit _ _ _ _ _ _ (c .before .before .before .put-count .ensures))
 
--- src/lib.rt:128:5
 put-key-data-requires : tie.Need-put-key-data-requires
-put-key-data-requires c κs = ?
+put-key-data-requires c κs = (c .before .before .before .before .before .before .before .pre .0, omega (arith, puts-fit _ _ _ _ _ _ (c .before .before .before .put-count .ensures)))
 
--- src/lib.rt:123:1
 same-length : tie.Need-same-length
 same-length c = search needs
 
--- src/lib.rt:123:1
 returns : tie.Need-returns
-returns c = ?
+returns c = put-two _ _ _ _ _ _ (c .before .before .before .before .before .before .put-count .ensures) _ _ (c .before .before .before .before .before .before .before .before .before .before .pre .1) (c .before .before .put-key-data .ensures)
 
 pub put-all-spec : {M : Type 1} → statement M
 put-all-spec =

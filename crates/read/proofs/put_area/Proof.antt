@@ -1,30 +1,26 @@
+-- `read::put_area` meets its contract: the lesser of the word's count and the area's bytes. Assumes nothing.
+use mathlib.Core.Path.{ap, _∙_}
+use Rattle.cells.specs.Bytes.{overlay}
+use native.Mathlib.Omega.{arith}
+use Rattle.read.proofs.Laws.{lies-less, area-put}
 use borrow.Author.Needs.{needs}
 use Rattle.read.proofs.put_area.Statement.{statement}
 use Rattle.read.proofs.put_area.Tie as tie
-use Rattle.read.proofs.put_area.Reads as reads
-use Rattle.read.proofs.put_area.Lts as lts
-use Rattle.read.proofs.lesser.Reads as lesser-reads
-use Rattle.read.proofs.put_cells.Reads as put-cells-reads
 
--- src/lib.rt:106:9
 lesser-requires : tie.Need-lesser-requires
 lesser-requires c κs = search needs
 
--- src/lib.rt:107:51
 cast-put-cells : tie.Need-cast-put-cells
 cast-put-cells c = search needs
 
--- src/lib.rt:107:5
 put-cells-requires : tie.Need-put-cells-requires
-put-cells-requires c κs = ?
+put-cells-requires c κs = (lies-less _ _ _ _ _ (c .before .before .before .before .pre .0) (c .before .lesser .ensures), omega (arith, c .before .lesser .ensures))
 
--- src/lib.rt:102:1
 same-length : tie.Need-same-length
 same-length c = search needs
 
--- src/lib.rt:102:1
 returns : tie.Need-returns
-returns c = ?
+returns c = area-put _ _ _ _ _ (c .before .before .before .before .before .before .before .pre .0) (c .before .before .before .before .lesser .ensures) _ _ _ (c .before .before .put-cells .ensures)
 
 pub put-area-spec : {M : Type 1} → statement M
 put-area-spec =

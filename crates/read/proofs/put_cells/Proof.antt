@@ -22,13 +22,13 @@ loop-holds : tie.Need-loop-holds Inv-loop μ-loop
 loop-holds c = (sym (overlay-none _ _), refl, omega arith)
 
 add-storage : tie.Need-add-storage Inv-loop μ-loop
-add-storage c = search (needs, c .before .before .pre .0 (omega arith))
+add-storage c = search (needs, c .before .before .pre .0 .ends (omega arith))
 
 mul-storage : tie.Need-mul-storage Inv-loop μ-loop
-mul-storage c = search (needs, c .before .before .pre .0 (omega arith))
+mul-storage c = search (needs, c .before .before .pre .0 .ends (omega arith))
 
 shared-slice-read-storage : tie.Need-shared-slice-read-storage Inv-loop μ-loop
-shared-slice-read-storage c = search (needs, c .before .before .before .pre .0 (omega arith))
+shared-slice-read-storage c = search (needs, c .before .before .before .pre .0 .ends (omega arith))
 
 cast-storage : tie.Need-cast-storage Inv-loop μ-loop
 cast-storage c = search needs

@@ -1,35 +1,28 @@
+-- `read::put_count` meets its contract: the lesser of the word's count and 8 of the count's bytes. Assumes nothing.
+use mathlib.Core.Path.{ap, _∙_}
+use Rattle.cells.specs.Bytes.{overlay}
+use Rattle.read.proofs.Laws.{sent-put}
 use borrow.Author.Needs.{needs}
 use Rattle.read.proofs.put_count.Statement.{statement}
 use Rattle.read.proofs.put_count.Tie as tie
-use Rattle.read.proofs.put_count.Reads as reads
-use Rattle.read.proofs.put_count.Lts as lts
-use Rattle.read.proofs.lesser.Reads as lesser-reads
-use Rattle.read.proofs.put_sent.Reads as put-sent-reads
-use Rattle.work.proofs.sent.Reads as sent-reads
 
--- src/lib.rt:96:9
 lesser-requires : tie.Need-lesser-requires
 lesser-requires c κs = search needs
 
--- src/lib.rt:97:14
 sent-requires : tie.Need-sent-requires
 sent-requires c κs = search needs
 
--- src/lib.rt:97:42
 cast-put-sent : tie.Need-cast-put-sent
 cast-put-sent c = search needs
 
--- src/lib.rt:97:5
 put-sent-requires : tie.Need-put-sent-requires
 put-sent-requires c κs = search needs
 
--- src/lib.rt:92:1
 same-length : tie.Need-same-length
 same-length c = search needs
 
--- src/lib.rt:92:1
 returns : tie.Need-returns
-returns c = ?
+returns c = sent-put _ _ _ (c .before .before .before .before .before .lesser .ensures) _ _ _ _ (c .before .before .before .before .sent .ensures) (c .before .before .put-sent .ensures)
 
 pub put-count-spec : {M : Type 1} → statement M
 put-count-spec =

@@ -1,51 +1,41 @@
+-- `read::put_key_data` meets its contract: what is put of the data lies behind what was put of the key. Assumes nothing.
+use native.Mathlib.Omega.{arith}
+use Rattle.read.proofs.Laws.{lies-by, puts-fit, put-areas}
 use borrow.Author.Needs.{needs}
 use Rattle.read.proofs.put_key_data.Statement.{statement}
 use Rattle.read.proofs.put_key_data.Tie as tie
-use Rattle.read.proofs.put_key_data.Reads as reads
-use Rattle.read.proofs.put_key_data.Lts as lts
-use Rattle.areas.proofs.data_area.Reads as data-area-reads
-use Rattle.areas.proofs.key_area.Reads as key-area-reads
-use Rattle.read.proofs.put_area.Reads as put-area-reads
 
--- src/lib.rt:116:9
 key-area-requires : tie.Need-key-area-requires
 key-area-requires c κs = search needs
 
--- src/lib.rt:117:40
 cast-put-area : tie.Need-cast-put-area
 cast-put-area c = search needs
 
--- src/lib.rt:117:9
 put-area-requires : tie.Need-put-area-requires
-put-area-requires c κs = ?
+put-area-requires c κs = (lies-by _ _ _ _ (c .before .before .key-area .ensures) (c .before .before .before .before .before .pre .0 .key), omega arith)
 
--- src/lib.rt:118:9
 data-area-requires : tie.Need-data-area-requires
 data-area-requires c κs = search needs
 
--- src/lib.rt:119:53
 cast-put-area-2 : tie.Need-cast-put-area-2
 cast-put-area-2 c = search needs
 
--- src/lib.rt:119:48
 add-put-area : tie.Need-add-put-area
 add-put-area c = search needs
 
--- src/lib.rt:119:65
 sub-put-area : tie.Need-sub-put-area
-sub-put-area c = ?
+sub-put-area c = search (needs, puts-fit _ _ _ _ _ _ (c .before .before .before .before .put-area .ensures))
 
--- src/lib.rt:119:5
 put-area-requires-2 : tie.Need-put-area-requires-2
-put-area-requires-2 c κs = ?
+put-area-requires-2 c κs =
+    (lies-by _ _ _ _ (c .before .data-area .ensures) (c .before .before .before .before .before .before .before .before .before .before .pre .0 .body), omega (arith, puts-fit _ _ _ _ _ _ (c .before .before .before .before .put-area .ensures)))
 
--- src/lib.rt:112:1
 same-length : tie.Need-same-length
 same-length c = search needs
 
--- src/lib.rt:112:1
 returns : tie.Need-returns
-returns c = ?
+returns c =
+    put-areas _ _ _ _ _ _ _ _ _ _ _ _ (c .before .before .before .before .before .before .before .before .before .before .key-area .ensures) (c .before .before .before .before .data-area .ensures) (c .before .before .before .before .before .before .before .before .before .before .before .before .before .pre .1) (c .before .before .before .before .before .before .before .put-area .ensures) (c .before .before .put-area2 .ensures)
 
 pub put-key-data-spec : {M : Type 1} → statement M
 put-key-data-spec =
