@@ -3,16 +3,15 @@
 use Prim.Native.Nat.{ℕ, _+_, _-_, _<_, _≤_, min}
 use mathlib.Core.Path.{_≡_, refl, sym, ap, ap₂, _∙_, subst}
 use mathlib.Core.Bool.{Bool, true, false}
-use mathlib.Core.List.{List, [], _∷_, _++_, append-assoc}
+use mathlib.Core.List.{List, _++_, append-assoc}
 use native.Mathlib.Numerals.{add-one}
 use native.Mathlib.Omega.{arith}
 use native.Mathlib.Decide.{decLt}
 use lib.ListN.{length, getD, take, drop, set, length-take, length-drop, length-append}
 use lib.Seq.{length-take-le, take-suc, take-all, take-take}
-use Rattle.cells.specs.Choice.{pick}
 use Rattle.cells.specs.Bytes.{part, overlay}
-use Rattle.cells.specs.Cells.{byteOf, bytesOf}
-use Rattle.cells.proofs.Laws.{length-bytesOf, getD-bytesOf, take-bytesOf, length-part, getD-part, overlay-snoc, overlay-two}
+use Rattle.cells.specs.Cells.{byteOf, bytesOf, marks}
+use Rattle.cells.proofs.Laws.{length-bytesOf, getD-bytesOf, take-bytesOf, getD-part, overlay-snoc, overlay-two}
 use Rattle.rows.specs.declared.Row.{Row}
 use Rattle.words.specs.declared.Word.{Word}
 use Rattle.areas.specs.declared.Area.{Area}
@@ -26,7 +25,7 @@ use Rattle.work.specs.declared.Work.{Work}
 use Rattle.work.specs.declared.Work.the-variants.{Home, Record}
 use Rattle.work.specs.declared.Got.{Got}
 use Rattle.work.specs.declared.Got.the-variants.{Sees, Fails}
-use Rattle.work.specs.Work.{Seen, gets, sawBy, sent}
+use Rattle.work.specs.Work.{gets, sawBy, sent}
 use Rattle.work.proofs.Seen.{record-key, record-body, key-lies, body-lies, home-seen, home-lies}
 use Rattle.outcome.specs.declared.Done.{Done}
 use Rattle.outcome.specs.Outcome.{checked}
@@ -34,7 +33,7 @@ use Rattle.plan.specs.declared.Job.{Job}
 use Rattle.plan.specs.declared.Plan.{Plan}
 use Rattle.plan.specs.declared.Plan.the-variants.{Refuses, Works}
 use Rattle.plan.specs.Plan.{readWork, readPlan}
-use Rattle.read.specs.Read.{offered, namedBytes, isEmpty, ReadDone, readDone, moved, readGot, readBy, reads, Looked, keyBytes, bodyBytes, LieIf, KeyData, Puts}
+use Rattle.read.specs.Read.{offered, namedBytes, isEmpty, readDone, moved, readGot, readBy, reads, Looked, keyBytes, bodyBytes, LieIf, KeyData, Puts}
 
 -- ---- bytes put into storage
 
@@ -182,24 +181,77 @@ module _ (t : List ℕ) (c : ℕ) (n : Counts) where
 
 -- by the read that it is
 module _ (t : List ℕ) (r : Read) (c : ℕ) (n : Counts) (look : Looked t r c n) where
-  -- all areas of the record are named, and lie on the track
-  pub record-lies : readWork r c ≡ Record c true true → KeyData t c n
-  record-lies p = all-lie t c n (ap (gets t) (sym p) ∙ look .sees)
+  module _ (x : Read) (p : r ≡ x) where
+    works-on : (w : Work) → readWork x c ≡ w → gets t w ≡ Sees n
+    works-on w q = ap (gets t) (sym (ap (λ (y : Read). readWork y c) p ∙ q)) ∙ look .sees
 
-  pub data-lies : readWork r c ≡ Record c false true → LieIf t (dataArea c n .first) (n .dl)
-  data-lies p = record { ends = body-lies t c false true n (ap (gets t) (sym p) ∙ look .sees) refl }
+    -- what is named lies on the track
+    pub record-lies : readWork x c ≡ Record c true true → KeyData t c n
+    record-lies q = all-lie t c n (works-on _ q)
 
-  pub home-on : readWork r c ≡ Home → LieIf t 0 5
-  home-on p = record { ends = λ _. omega (arith, home-lies t n (ap (gets t) (sym p) ∙ look .sees)) }
+    pub data-lies : readWork x c ≡ Record c false true → LieIf t (dataArea c n .first) (n .dl)
+    data-lies q = record { ends = body-lies t c false true n (works-on _ q) refl }
 
-  -- these bytes put into storage are those that the read names
-  pub put-named : (x : Read) (l out : List ℕ) (at count : ℕ) → r ≡ x → out ≡ overlay l at (take count (bytesFor t x c n))
+    pub home-on : readWork x c ≡ Home → LieIf t 0 5
+    home-on q = record { ends = λ _. omega (arith, home-lies t n (works-on _ q)) }
+
+    -- these bytes put into storage are those that the read names
+    pub put-named : (l out : List ℕ) (at count : ℕ) → out ≡ overlay l at (take count (bytesFor t x c n))
+        → out ≡ overlay l at (take count (offered r n (sawBy t (readWork r c))))
+    put-named l out at count q =
+        q ∙ ap (λ (y : Read). overlay l at (take count (bytesFor t y c n))) (sym p)
+        ∙ ap (λ (v : List ℕ). overlay l at (take count v)) (sym (offered-are t c n r (look .sees)))
+
+  pub put-data : (d : Area) (l out : List ℕ) (at count m : ℕ) → r ≡ ReadData → d ≡ dataArea c n
+      → Puts l at count (bytesOf (part t (d .first) (n .dl))) out m
       → out ≡ overlay l at (take count (offered r n (sawBy t (readWork r c))))
-  put-named x l out at count p q =
-      q ∙ ap (λ (y : Read). overlay l at (take count (bytesFor t y c n))) (sym p)
-      ∙ ap (λ (v : List ℕ). overlay l at (take count v)) (sym (offered-are t c n r (look .sees)))
+  put-data d l out at count m p e q =
+      put-named ReadData p l out at count
+      (q .storage ∙ ap (λ (a : Area). overlay l at (take count (bytesOf (part t (a .first) (n .dl))))) e)
 
-  pub offered-long : namedBytes r n ≡ length (offered r n (sawBy t (readWork r c)))
+  offered-long : namedBytes r n ≡ length (offered r n (sawBy t (readWork r c)))
   offered-long = sym (ap length (offered-are t c n r (look .sees)) ∙ named-long t c n r (look .sees))
 
 -- ---- what a read leaves
+
+pub looked : (t : List ℕ) (r : Read) (c : ℕ) (w : Work) (g : Got) (n : Counts) → w ≡ readWork r c → g ≡ gets t w → g ≡ Sees n → Looked t r c n
+looked t r c w g n p q e = record { sees = ap (gets t) (sym p) ∙ sym q ∙ e }
+
+module _ (r : Read) (s : Stands) (o : Orders) (w : Word) (l t : List ℕ) where
+  -- all areas being readable
+  pub seen-leaves : (j : Job) (n : Counts) (b : Bool) (k : ℕ) (d : Done) (out : List ℕ) → Looked t r (j .place) n → b ≡ isEmpty r n → k ≡ namedBytes r n
+      → d ≡ moved b s o w j k → out ≡ overlay l (w .address) (take (w .count) (offered r n (sawBy t (readWork r (j .place)))))
+      → readDone d out ≡ readGot r s o w l j (sawBy t (readWork r (j .place))) (Sees n)
+  unfolding readGot
+  seen-leaves j n b k d out look e f p q =
+      ap₂ readDone (p ∙ ap₂ (λ (x : Bool) (y : ℕ). moved x s o w j y) e (f ∙ offered-long t r (j .place) n look)) q
+
+  -- by what the areas are
+  module _ (j : Job) (x : Work) (g : Got) (p : x ≡ readWork r (j .place)) (q : g ≡ gets t x) where
+    got-is : g ≡ gets t (readWork r (j .place))
+    got-is = q ∙ ap (gets t) p
+
+    got-leaves : (y : Got) → g ≡ y → readGot r s o w l j (sawBy t (readWork r (j .place))) y ≡ readBy r s o w l t (Works j)
+    unfolding readBy
+    got-leaves y e = ap (readGot r s o w l j (sawBy t (readWork r (j .place)))) (sym e ∙ got-is)
+
+    pub sees-leaves : (n : Counts) (d : Done) (out : List ℕ) → g ≡ Sees n
+        → readDone d out ≡ readGot r s o w l j (sawBy t (readWork r (j .place))) (Sees n) → readDone d out ≡ readBy r s o w l t (Works j)
+    sees-leaves n d out e f = f ∙ got-leaves (Sees n) e
+
+    pub fails-leaves : (row : Row) (d : Done) → g ≡ Fails row → d ≡ checked s o (w .count) row → readDone d l ≡ readBy r s o w l t (Works j)
+    unfolding readGot
+    fails-leaves row d e f = ap (λ (z : Done). readDone z l) f ∙ got-leaves (Fails row) e
+
+  -- by the plan
+  module _ (x : Plan) (p : x ≡ readPlan (marks t) s o r) where
+    plan-leaves : (y : Plan) → x ≡ y → readBy r s o w l t y ≡ reads r s o w l t
+    unfolding reads
+    plan-leaves y e = ap (readBy r s o w l t) (sym e ∙ p)
+
+    pub refuses-leaves : (row : Row) (d : Done) → x ≡ Refuses row → d ≡ checked s o (w .count) row → readDone d l ≡ reads r s o w l t
+    unfolding readBy
+    refuses-leaves row d e f = ap (λ (z : Done). readDone z l) f ∙ plan-leaves (Refuses row) e
+
+    pub works-leaves : (j : Job) (d : Done) (out : List ℕ) → x ≡ Works j → readDone d out ≡ readBy r s o w l t (Works j) → readDone d out ≡ reads r s o w l t
+    works-leaves j d out e f = f ∙ plan-leaves (Works j) e

@@ -1,117 +1,94 @@
+-- `read::put` meets its contract: a line a read. What is named was read, so it lies on the track. Assumes nothing.
+use mathlib.Core.Path.{refl}
+use Rattle.plan.specs.Plan.{readWork}
+use Rattle.read.proofs.Laws.{record-lies, data-lies, home-on, lies-by, put-named, put-data}
 use borrow.Author.Needs.{needs}
 use Rattle.read.proofs.put.Statement.{statement}
 use Rattle.read.proofs.put.Tie as tie
-use Rattle.read.proofs.put.Reads as reads
-use Rattle.read.proofs.put.Lts as lts
-use Rattle.areas.proofs.data_area.Reads as data-area-reads
-use Rattle.read.proofs.put_all.Reads as put-all-reads
-use Rattle.read.proofs.put_area.Reads as put-area-reads
-use Rattle.read.proofs.put_count.Reads as put-count-reads
-use Rattle.read.proofs.put_key_data.Reads as put-key-data-reads
 
--- src/lib.rt:136:14
 cast-at : tie.Need-cast-at
 cast-at c = search needs
 
--- src/lib.rt:139:35
 enum-told : tie.Need-enum-told
 enum-told c = search needs
 
--- src/lib.rt:139:13
 put-area-requires : tie.Need-put-area-requires
-put-area-requires c κs = ?
+unfolding readWork
+put-area-requires c κs = (home-on _ _ _ _ (c .before .before .before .before .before .before .pre .0) _ (c .before .enum-told .given .1) refl, c .before .before .before .before .before .before .pre .1 .area)
 
--- src/lib.rt:141:52
 enum-told-2 : tie.Need-enum-told-2
 enum-told-2 c = search needs
 
--- src/lib.rt:141:27
 put-all-requires : tie.Need-put-all-requires
-put-all-requires c κs = ?
+unfolding readWork
+put-all-requires c κs = (record-lies _ _ _ _ (c .before .before .before .before .before .before .pre .0) _ (c .before .enum-told2 .given .1) refl, c .before .before .before .before .before .before .pre .1 .area)
 
--- src/lib.rt:143:26
 enum-told-3 : tie.Need-enum-told-3
 enum-told-3 c = search needs
 
--- src/lib.rt:143:13
 put-count-requires : tie.Need-put-count-requires
 put-count-requires c κs = search needs
 
--- src/lib.rt:146:17
 enum-told-4 : tie.Need-enum-told-4
 enum-told-4 c = search needs
 
--- src/lib.rt:146:17
 data-area-requires : tie.Need-data-area-requires
 data-area-requires c κs = search needs
 
--- src/lib.rt:147:13
 put-area-requires-2 : tie.Need-put-area-requires-2
-put-area-requires-2 c κs = ?
+unfolding readWork
+put-area-requires-2 c κs =
+    (lies-by _ _ _ _ (c .before .data-area .ensures) (data-lies _ _ _ _ (c .before .before .before .before .before .before .before .pre .0) _ (c .before .before .enum-told4 .given .1) refl), c .before .before .before .before .before .before .before .pre .1 .area)
 
--- src/lib.rt:149:60
 enum-told-5 : tie.Need-enum-told-5
 enum-told-5 c = search needs
 
--- src/lib.rt:149:30
 put-key-data-requires : tie.Need-put-key-data-requires
-put-key-data-requires c κs = ?
+unfolding readWork
+put-key-data-requires c κs = (record-lies _ _ _ _ (c .before .before .before .before .before .before .pre .0) _ (c .before .enum-told5 .given .1) refl, c .before .before .before .before .before .before .pre .1 .area)
 
--- src/lib.rt:150:51
 enum-told-6 : tie.Need-enum-told-6
 enum-told-6 c = search needs
 
--- src/lib.rt:150:26
 put-all-requires-2 : tie.Need-put-all-requires-2
-put-all-requires-2 c κs = ?
+unfolding readWork
+put-all-requires-2 c κs = (record-lies _ _ _ _ (c .before .before .before .before .before .before .pre .0) _ (c .before .enum-told6 .given .1) refl, c .before .before .before .before .before .before .pre .1 .area)
 
--- src/lib.rt:132:1
 same-length : tie.Need-same-length
 same-length c = search needs
 
--- src/lib.rt:132:1
 returns : tie.Need-returns
-returns c = ?
+returns c = put-named _ _ _ _ (c .before .before .before .before .before .before .before .before .before .pre .0) _ (c .before .before .before .before .enum-told .given .1) _ _ _ (c .before .before .before .before .before .before .before .before .before .args .w .count) (c .before .before .put-area .ensures .storage)
 
--- src/lib.rt:132:1
 same-length-2 : tie.Need-same-length-2
 same-length-2 c = search needs
 
--- src/lib.rt:132:1
 returns-2 : tie.Need-returns-2
-returns-2 c = ?
+returns-2 c = put-named _ _ _ _ (c .before .before .before .before .before .before .before .before .before .pre .0) _ (c .before .before .before .before .enum-told2 .given .1) _ _ _ (c .before .before .before .before .before .before .before .before .before .args .w .count) (c .before .before .put-all .ensures)
 
--- src/lib.rt:132:1
 same-length-3 : tie.Need-same-length-3
 same-length-3 c = search needs
 
--- src/lib.rt:132:1
 returns-3 : tie.Need-returns-3
-returns-3 c = ?
+returns-3 c = put-named _ _ _ _ (c .before .before .before .before .before .before .before .before .before .pre .0) _ (c .before .before .before .before .enum-told3 .given .1) _ _ _ (c .before .before .before .before .before .before .before .before .before .args .w .count) (c .before .before .put-count .ensures .storage)
 
--- src/lib.rt:132:1
 same-length-4 : tie.Need-same-length-4
 same-length-4 c = search needs
 
--- src/lib.rt:132:1
 returns-4 : tie.Need-returns-4
-returns-4 c = ?
+returns-4 c = put-data _ _ _ _ (c .before .before .before .before .before .before .before .before .before .before .pre .0) _ _ _ _ _ _ (c .before .before .before .before .before .enum-told4 .given .1) (c .before .before .before .before .data-area .ensures) (c .before .before .put-area2 .ensures)
 
--- src/lib.rt:132:1
 same-length-5 : tie.Need-same-length-5
 same-length-5 c = search needs
 
--- src/lib.rt:132:1
 returns-5 : tie.Need-returns-5
-returns-5 c = ?
+returns-5 c = put-named _ _ _ _ (c .before .before .before .before .before .before .before .before .before .pre .0) _ (c .before .before .before .before .enum-told5 .given .1) _ _ _ (c .before .before .before .before .before .before .before .before .before .args .w .count) (c .before .before .put-key-data .ensures)
 
--- src/lib.rt:132:1
 same-length-6 : tie.Need-same-length-6
 same-length-6 c = search needs
 
--- src/lib.rt:132:1
 returns-6 : tie.Need-returns-6
-returns-6 c = ?
+returns-6 c = put-named _ _ _ _ (c .before .before .before .before .before .before .before .before .before .pre .0) _ (c .before .before .before .before .enum-told6 .given .1) _ _ _ (c .before .before .before .before .before .before .before .before .before .args .w .count) (c .before .before .put-all2 .ensures)
 
 pub put-spec : {M : Type 1} → statement M
 put-spec =

@@ -1,6 +1,4 @@
 -- `read::put_area` meets its contract: the lesser of the word's count and the area's bytes. Assumes nothing.
-use mathlib.Core.Path.{ap, _∙_}
-use Rattle.cells.specs.Bytes.{overlay}
 use native.Mathlib.Omega.{arith}
 use Rattle.read.proofs.Laws.{lies-less, area-put}
 use borrow.Author.Needs.{needs}

@@ -1,6 +1,4 @@
 -- `read::put_count` meets its contract: the lesser of the word's count and 8 of the count's bytes. Assumes nothing.
-use mathlib.Core.Path.{ap, _∙_}
-use Rattle.cells.specs.Bytes.{overlay}
 use Rattle.read.proofs.Laws.{sent-put}
 use borrow.Author.Needs.{needs}
 use Rattle.read.proofs.put_count.Statement.{statement}
