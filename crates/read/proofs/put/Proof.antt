@@ -14,14 +14,18 @@ enum-told c = search needs
 
 put-area-requires : tie.Need-put-area-requires
 unfolding readWork
-put-area-requires c κs = (home-on _ _ _ _ (c .before .before .before .before .before .before .pre .0) _ (c .before .enum-told .given .1) refl, c .before .before .before .before .before .before .pre .1 .area)
+put-area-requires c κs =
+    let b = c .before .before .before .before .before .before in
+    (home-on _ _ _ _ (b .pre .0) _ (c .before .enum-told .given .1) refl, b .pre .1 .area)
 
 enum-told-2 : tie.Need-enum-told-2
 enum-told-2 c = search needs
 
 put-all-requires : tie.Need-put-all-requires
 unfolding readWork
-put-all-requires c κs = (record-lies _ _ _ _ (c .before .before .before .before .before .before .pre .0) _ (c .before .enum-told2 .given .1) refl, c .before .before .before .before .before .before .pre .1 .area)
+put-all-requires c κs =
+    let b = c .before .before .before .before .before .before in
+    (record-lies _ _ _ _ (b .pre .0) _ (c .before .enum-told2 .given .1) refl, b .pre .1 .area)
 
 enum-told-3 : tie.Need-enum-told-3
 enum-told-3 c = search needs
@@ -38,57 +42,79 @@ data-area-requires c κs = search needs
 put-area-requires-2 : tie.Need-put-area-requires-2
 unfolding readWork
 put-area-requires-2 c κs =
-    (lies-by _ _ _ _ (c .before .data-area .ensures) (data-lies _ _ _ _ (c .before .before .before .before .before .before .before .pre .0) _ (c .before .before .enum-told4 .given .1) refl), c .before .before .before .before .before .before .before .pre .1 .area)
+    let b = c .before .before .before .before .before .before .before in
+    (lies-by _ _ _ _ (c .before .data-area .ensures) (data-lies _ _ _ _ (b .pre .0) _ (c .before .before .enum-told4 .given .1) refl), b .pre .1 .area)
 
 enum-told-5 : tie.Need-enum-told-5
 enum-told-5 c = search needs
 
 put-key-data-requires : tie.Need-put-key-data-requires
 unfolding readWork
-put-key-data-requires c κs = (record-lies _ _ _ _ (c .before .before .before .before .before .before .pre .0) _ (c .before .enum-told5 .given .1) refl, c .before .before .before .before .before .before .pre .1 .area)
+put-key-data-requires c κs =
+    let b = c .before .before .before .before .before .before in
+    (record-lies _ _ _ _ (b .pre .0) _ (c .before .enum-told5 .given .1) refl, b .pre .1 .area)
 
 enum-told-6 : tie.Need-enum-told-6
 enum-told-6 c = search needs
 
 put-all-requires-2 : tie.Need-put-all-requires-2
 unfolding readWork
-put-all-requires-2 c κs = (record-lies _ _ _ _ (c .before .before .before .before .before .before .pre .0) _ (c .before .enum-told6 .given .1) refl, c .before .before .before .before .before .before .pre .1 .area)
+put-all-requires-2 c κs =
+    let b = c .before .before .before .before .before .before in
+    (record-lies _ _ _ _ (b .pre .0) _ (c .before .enum-told6 .given .1) refl, b .pre .1 .area)
 
 same-length : tie.Need-same-length
 same-length c = search needs
 
 returns : tie.Need-returns
-returns c = put-named _ _ _ _ (c .before .before .before .before .before .before .before .before .before .pre .0) _ (c .before .before .before .before .enum-told .given .1) _ _ _ (c .before .before .before .before .before .before .before .before .before .args .w .count) (c .before .before .put-area .ensures .storage)
+returns c =
+    let m = c .before .before .before .before in
+    let b = m .before .before .before .before .before in
+    put-named _ _ _ _ (b .pre .0) _ (m .enum-told .given .1) _ _ _ (b .args .w .count) (c .before .before .put-area .ensures .storage)
 
 same-length-2 : tie.Need-same-length-2
 same-length-2 c = search needs
 
 returns-2 : tie.Need-returns-2
-returns-2 c = put-named _ _ _ _ (c .before .before .before .before .before .before .before .before .before .pre .0) _ (c .before .before .before .before .enum-told2 .given .1) _ _ _ (c .before .before .before .before .before .before .before .before .before .args .w .count) (c .before .before .put-all .ensures)
+returns-2 c =
+    let m = c .before .before .before .before in
+    let b = m .before .before .before .before .before in
+    put-named _ _ _ _ (b .pre .0) _ (m .enum-told2 .given .1) _ _ _ (b .args .w .count) (c .before .before .put-all .ensures)
 
 same-length-3 : tie.Need-same-length-3
 same-length-3 c = search needs
 
 returns-3 : tie.Need-returns-3
-returns-3 c = put-named _ _ _ _ (c .before .before .before .before .before .before .before .before .before .pre .0) _ (c .before .before .before .before .enum-told3 .given .1) _ _ _ (c .before .before .before .before .before .before .before .before .before .args .w .count) (c .before .before .put-count .ensures .storage)
+returns-3 c =
+    let m = c .before .before .before .before in
+    let b = m .before .before .before .before .before in
+    put-named _ _ _ _ (b .pre .0) _ (m .enum-told3 .given .1) _ _ _ (b .args .w .count) (c .before .before .put-count .ensures .storage)
 
 same-length-4 : tie.Need-same-length-4
 same-length-4 c = search needs
 
 returns-4 : tie.Need-returns-4
-returns-4 c = put-data _ _ _ _ (c .before .before .before .before .before .before .before .before .before .before .pre .0) _ _ _ _ _ _ (c .before .before .before .before .before .enum-told4 .given .1) (c .before .before .before .before .data-area .ensures) (c .before .before .put-area2 .ensures)
+returns-4 c =
+    let m = c .before .before .before .before in
+    put-data _ _ _ _ (m .before .before .before .before .before .before .pre .0) _ _ _ _ _ _ (m .before .enum-told4 .given .1) (m .data-area .ensures) (c .before .before .put-area2 .ensures)
 
 same-length-5 : tie.Need-same-length-5
 same-length-5 c = search needs
 
 returns-5 : tie.Need-returns-5
-returns-5 c = put-named _ _ _ _ (c .before .before .before .before .before .before .before .before .before .pre .0) _ (c .before .before .before .before .enum-told5 .given .1) _ _ _ (c .before .before .before .before .before .before .before .before .before .args .w .count) (c .before .before .put-key-data .ensures)
+returns-5 c =
+    let m = c .before .before .before .before in
+    let b = m .before .before .before .before .before in
+    put-named _ _ _ _ (b .pre .0) _ (m .enum-told5 .given .1) _ _ _ (b .args .w .count) (c .before .before .put-key-data .ensures)
 
 same-length-6 : tie.Need-same-length-6
 same-length-6 c = search needs
 
 returns-6 : tie.Need-returns-6
-returns-6 c = put-named _ _ _ _ (c .before .before .before .before .before .before .before .before .before .pre .0) _ (c .before .before .before .before .enum-told6 .given .1) _ _ _ (c .before .before .before .before .before .before .before .before .before .args .w .count) (c .before .before .put-all2 .ensures)
+returns-6 c =
+    let m = c .before .before .before .before in
+    let b = m .before .before .before .before .before in
+    put-named _ _ _ _ (b .pre .0) _ (m .enum-told6 .given .1) _ _ _ (b .args .w .count) (c .before .before .put-all2 .ensures)
 
 pub put-spec : {M : Type 1} → statement M
 put-spec =

@@ -28,14 +28,17 @@ sub-put-area c = search (needs, puts-fit _ _ _ _ _ _ (c .before .before .before 
 
 put-area-requires-2 : tie.Need-put-area-requires-2
 put-area-requires-2 c κs =
-    (lies-by _ _ _ _ (c .before .data-area .ensures) (c .before .before .before .before .before .before .before .before .before .before .pre .0 .body), omega (arith, puts-fit _ _ _ _ _ _ (c .before .before .before .before .put-area .ensures)))
+    let k = c .before .before .before .before in
+    (lies-by _ _ _ _ (c .before .data-area .ensures) (k .before .before .before .before .before .before .pre .0 .body), omega (arith, puts-fit _ _ _ _ _ _ (k .put-area .ensures)))
 
 same-length : tie.Need-same-length
 same-length c = search needs
 
 returns : tie.Need-returns
 returns c =
-    put-areas _ _ _ _ _ _ _ _ _ _ _ _ (c .before .before .before .before .before .before .before .before .before .before .key-area .ensures) (c .before .before .before .before .data-area .ensures) (c .before .before .before .before .before .before .before .before .before .before .before .before .before .pre .1) (c .before .before .before .before .before .before .before .put-area .ensures) (c .before .before .put-area2 .ensures)
+    let k = c .before .before .before .before .before .before .before in
+    put-areas _ _ _ _ _ _ _ _ _ _ _ _ (k .before .before .before .key-area .ensures) (c .before .before .before .before .data-area .ensures) (k .before .before .before .before .before .before .pre .1)
+    (k .put-area .ensures) (c .before .before .put-area2 .ensures)
 
 pub put-key-data-spec : {M : Type 1} → statement M
 put-key-data-spec =

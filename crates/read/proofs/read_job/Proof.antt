@@ -14,7 +14,9 @@ enum-known-n : tie.Need-enum-known-n
 enum-known-n c = search needs
 
 read-seen-requires : tie.Need-read-seen-requires
-read-seen-requires c κs = (looked _ _ _ _ _ _ (c .before .before .before .before .before .read-work .ensures) (c .before .before .before .before .get .ensures) (c .before .before .n .given .1), c .before .before .before .before .before .before .before .before .pre)
+read-seen-requires c κs =
+    let g = c .before .before .before .before in
+    (looked _ _ _ _ _ _ (g .before .read-work .ensures) (g .get .ensures) (c .before .before .n .given .1), g .before .before .before .before .pre)
 
 enum-known-row : tie.Need-enum-known-row
 enum-known-row c = search needs
@@ -27,11 +29,13 @@ same-length c = search needs
 
 returns : tie.Need-returns
 returns c =
-    sees-leaves _ _ _ _ _ _ _ _ _ (c .before .before .before .before .before .before .before .before .read-work .ensures) (c .before .before .before .before .before .before .before .get .ensures) _ _ _ (c .before .before .before .before .before .n .given .1) (c .before .before .read-seen .ensures)
+    let g = c .before .before .before .before .before .before .before in
+    sees-leaves _ _ _ _ _ _ _ _ _ (g .before .read-work .ensures) (g .get .ensures) _ _ _ (c .before .before .before .before .before .n .given .1) (c .before .before .read-seen .ensures)
 
 returns-2 : tie.Need-returns-2
 returns-2 c =
-    fails-leaves _ _ _ _ _ _ _ _ _ (c .before .before .before .before .before .read-work .ensures) (c .before .before .before .before .get .ensures) _ _ (c .before .before .row .given .1) (c .checked .ensures)
+    let g = c .before .before .before .before in
+    fails-leaves _ _ _ _ _ _ _ _ _ (g .before .read-work .ensures) (g .get .ensures) _ _ (c .before .before .row .given .1) (c .checked .ensures)
 
 pub read-job-spec : {M : Type 1} → statement M
 read-job-spec =
