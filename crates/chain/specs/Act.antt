@@ -1,7 +1,7 @@
 -- Document 01, "Commands": one dispatch. What a command leaves with the unit, in storage and on the track under the head.
 -- Assumes nothing.
 use Prim.Native.Nat.{ℕ}
-use mathlib.Core.List.{List}
+use mathlib.Core.List.{List, []}
 use Rattle.cells.specs.Bytes.{overlay}
 use Rattle.cells.specs.Cells.{marks}
 use Rattle.rows.specs.declared.Row.the-variants.{UnknownCode}
@@ -14,7 +14,15 @@ use Rattle.held.specs.declared.Stands.{Stands}
 use Rattle.held.specs.declared.Orders.{Orders}
 use Rattle.outcome.specs.declared.Done.{Done}
 use Rattle.outcome.specs.Outcome.{checked}
+use Rattle.areas.specs.declared.Area.{Area}
+use Rattle.work.specs.declared.Work.{Work}
+use Rattle.work.specs.Work.{workReads}
+use Rattle.plan.specs.declared.Plan.{Plan}
+use Rattle.plan.specs.declared.Plan.the-variants.{Refuses, Works}
+use Rattle.plan.specs.Plan.{searchWork, readWork, searchPlan, readPlan}
 use Rattle.control.specs.Control.{controls, puts}
+use Rattle.search.specs.Search.{searches}
+use Rattle.read.specs.Read.{reads}
 
 pub record Acted : Type 0 where
   pub done : Done
@@ -27,8 +35,8 @@ acted d s t = record { done = d; storage = s; track = t }
 -- which commands are built: one that is not answers as an unknown code
 unfoldable pub built : Command → Command
 built (Controls c) = Controls c
-built (Searches c) = Unknown
-built (Reads c) = Unknown
+built (Searches c) = Searches c
+built (Reads c) = Reads c
 built (Writes c) = Unknown
 built Unknown = Unknown
 
@@ -37,10 +45,23 @@ unknown s o w st t = acted (checked s o (w .count) UnknownCode) st t
 
 unfoldable pub obeys : Shape → Command → Stands → Orders → Word → List ℕ → List ℕ → Acted
 obeys g (Controls c) s o w st t = acted (controls g c s o w st (marks t)) (overlay st (w .address) (puts c s w)) t
-obeys g (Searches c) s o w st t = unknown s o w st t
-obeys g (Reads c) s o w st t = unknown s o w st t
+obeys g (Searches c) s o w st t = acted (searches c s o w st t) st t
+obeys g (Reads c) s o w st t = acted (reads c s o w st t .done) (reads c s o w st t .storage) t
 obeys g (Writes c) s o w st t = unknown s o w st t
 obeys g Unknown s o w st t = unknown s o w st t
 
 unfoldable pub acts : Shape → Stands → Orders → Word → List ℕ → List ℕ → Acted
 acts g s o w st t = obeys g (built (commandOf (w .code))) s o w st t
+
+-- ---- what a command reads: the same plan and the same areas, on the track under the head. A row that ends it before reads nothing
+
+unfoldable pub planReads : List ℕ → (ℕ → Work) → Plan → List Area
+planReads t work (Refuses row) = []
+planReads t work (Works j) = workReads t (work (j .place))
+
+unfoldable pub commandReads : Command → Stands → Orders → List ℕ → List Area
+commandReads (Controls c) s o t = []
+commandReads (Searches c) s o t = planReads t (searchWork c) (searchPlan (marks t) s o c)
+commandReads (Reads c) s o t = planReads t (readWork c) (readPlan (marks t) s o c)
+commandReads (Writes c) s o t = []
+commandReads Unknown s o t = []

@@ -1,7 +1,7 @@
 -- One command word, and an allowance of them. Assumes nothing.
 use Prim.Native.Nat.{ℕ, zero, suc}
 use mathlib.Core.Bool.{true}
-use mathlib.Core.List.{List}
+use mathlib.Core.List.{List, []}
 use Rattle.cells.specs.Choice.{pick}
 use Rattle.words.specs.declared.Word.{Word}
 use Rattle.words.specs.declared.Cause.{Cause}
@@ -13,7 +13,9 @@ use Rattle.pack.specs.declared.Shape.{Shape}
 use Rattle.pack.specs.Tracks.{startOf, trackAt, withTrack}
 use Rattle.held.specs.declared.Held.{Held}
 use Rattle.held.specs.Held.{rested}
-use Rattle.chain.specs.Act.{Acted, acts}
+use Rattle.areas.specs.declared.Area.{Area}
+use Rattle.commands.specs.Commands.{commandOf}
+use Rattle.chain.specs.Act.{Acted, built, acts, commandReads}
 use Rattle.settle.specs.Settle.{heldAfter, storageAfter}
 
 -- all that a call may change
@@ -64,3 +66,14 @@ step g w = takes g w (tested (w .storage) (w .held .channel .next) (w .held .cha
 unfoldable pub run : Shape → ℕ → World → World
 run g zero w = w
 run g (suc n) w = pick (w .held .channel .going) (run g n (step g w)) w
+
+-- ---- the areas that the next command word reads
+
+unfoldable pub testedReads : Shape → World → Tested → List Area
+testedReads g w (Obey d) =
+    commandReads (built (commandOf (d .code))) (w .held .stands) (w .held .orders) (trackAt (w .cells) (under g (w .held)))
+testedReads g w (Jump a) = []
+testedReads g w (Bad cause) = []
+
+unfoldable pub wordReads : Shape → World → List Area
+wordReads g w = testedReads g w (tested (w .storage) (w .held .channel .next) (w .held .channel .«after_tic»))

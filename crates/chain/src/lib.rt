@@ -22,6 +22,7 @@ ghost use Rattle.hunt.specs.Hunt.{Whole};
 ghost use mathlib.Core.Bool.{true, false};
 ghost use Rattle.words.specs.Words.{Reaches, tested};
 ghost use Rattle.control.specs.Control.{controls, puts};
+ghost use Rattle.plan.specs.Plan.{SelectedOn};
 ghost use Rattle.chain.specs.Act.{acted, built, obeys, acts};
 ghost use Rattle.chain.specs.Step.{world, jumped, stops, obeyed, step, run};
 ghost use Rattle.chain.specs.Legal.{Legal};
@@ -33,8 +34,8 @@ fn built(c: Command) -> Command
 {
     match c {
         Command::Controls(k) => Command::Controls(k),
-        Command::Searches(_) => Command::Unknown,
-        Command::Reads(_) => Command::Unknown,
+        Command::Searches(k) => Command::Searches(k),
+        Command::Reads(k) => Command::Reads(k),
         Command::Writes(_) => Command::Unknown,
         Command::Unknown => Command::Unknown,
     }
@@ -67,20 +68,20 @@ fn obey(
     storage: &mut [u8],
     track: &mut [u16],
 ) -> Done
-    requires { ⌜ Reaches (now storage) w × Whole (now track) ⌝ }
+    requires { ⌜ Reaches (now storage) w × Whole (now track) × SelectedOn (marks (now track)) (o .selection) ⌝ }
     ensures { λ r. ⌜ acted r (now (storage .exit)) (now (track .exit)) ≡ obeys g c s o w (now (storage .entry)) (now (track .entry)) ⌝ }
 {
     match c {
         Command::Controls(k) => controlled(g, k, s, o, w, storage, track),
-        Command::Searches(_) => outcome::checked(s, o, w.count, Row::UnknownCode),
-        Command::Reads(_) => outcome::checked(s, o, w.count, Row::UnknownCode),
+        Command::Searches(k) => search::search(k, s, o, w, storage, track),
+        Command::Reads(k) => read::read(k, s, o, w, storage, track),
         Command::Writes(_) => outcome::checked(s, o, w.count, Row::UnknownCode),
         Command::Unknown => outcome::checked(s, o, w.count, Row::UnknownCode),
     }
 }
 
 fn act(g: Shape, s: Stands, o: Orders, w: Word, storage: &mut [u8], track: &mut [u16]) -> Done
-    requires { ⌜ Reaches (now storage) w × Whole (now track) ⌝ }
+    requires { ⌜ Reaches (now storage) w × Whole (now track) × SelectedOn (marks (now track)) (o .selection) ⌝ }
     ensures { λ r. ⌜ acted r (now (storage .exit)) (now (track .exit)) ≡ acts g s o w (now (storage .entry)) (now (track .entry)) ⌝ }
 {
     let c = built(commands::command_of(w.code));

@@ -94,9 +94,14 @@ abbrev pub bodyBytes : List ℕ → ℕ → Counts → List ℕ
 bodyBytes t c n = bytesOf (part t (dataArea c n .first) (n .dl))
 
 -- so many bytes from a cell on lie on the track, if there are any
-abbrev pub LieIf : List ℕ → ℕ → ℕ → Type 0
-LieIf t first n = 0 < n → first + n ≤ length t
+pub record LieIf (t : List ℕ) (first n : ℕ) : Type 0 where
+  pub ends : 0 < n → first + n ≤ length t
 
 pub record KeyData (t : List ℕ) (c : ℕ) (n : Counts) : Type 0 where
   pub key : LieIf t (keyArea c n .first) (n .kl)
   pub body : LieIf t (dataArea c n .first) (n .dl)
+
+-- of the bytes v, as many as the word takes were put into storage at an address, and so many they were
+pub record Puts (old : List ℕ) (at count : ℕ) (v : List ℕ) (new : List ℕ) (many : ℕ) : Type 0 where
+  pub storage : new ≡ overlay old at (take count v)
+  pub moved : many ≡ length (take count v)

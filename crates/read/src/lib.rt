@@ -23,7 +23,7 @@ ghost use Rattle.work.specs.declared.Got.the-variants.{Sees};
 ghost use Rattle.work.specs.Work.{sawBy, sent};
 ghost use Rattle.plan.specs.declared.Plan.the-variants.{Works};
 ghost use Rattle.plan.specs.Plan.{SelectedOn, readWork};
-ghost use Rattle.read.specs.Read.{Looked, LieIf, KeyData, keyBytes, bodyBytes, offered, namedBytes, isEmpty, readDone, moved, readGot, readBy, reads};
+ghost use Rattle.read.specs.Read.{Looked, LieIf, KeyData, Puts, keyBytes, bodyBytes, offered, namedBytes, isEmpty, readDone, moved, readGot, readBy, reads};
 
 fn is_empty(c: Read, n: Counts) -> bool
     ensures { λ r. ⌜ r ≡ isEmpty c n ⌝ }
@@ -91,7 +91,7 @@ fn put_cells(track: &[u16], first: usize, storage: &mut [u8], at: usize, m: usiz
 // A count's bytes, as many as the word takes.
 fn put_count(n: Counts, storage: &mut [u8], at: usize, count: u16) -> u16
     requires { ⌜ at + count ≤ length (now storage) ⌝ }
-    ensures { λ r. ⌜ (now (storage .exit) ≡ overlay (now (storage .entry)) at (take count (sent n))) × (r ≡ length (take count (sent n))) ⌝ }
+    ensures { λ r. ⌜ Puts (now (storage .entry)) at count (sent n) (now (storage .exit)) r ⌝ }
 {
     let m = lesser(count, 8);
     put_sent(work::sent(n), storage, at, m as usize);
@@ -101,7 +101,7 @@ fn put_count(n: Counts, storage: &mut [u8], at: usize, count: u16) -> u16
 // The bytes of an area of n bytes, as many as the word still takes.
 fn put_area(track: &[u16], first: u32, n: u16, storage: &mut [u8], at: usize, count: u16) -> u16
     requires { ⌜ LieIf (now track) first n × (at + count ≤ length (now storage)) ⌝ }
-    ensures { λ r. ⌜ (now (storage .exit) ≡ overlay (now (storage .entry)) at (take count (bytesOf (part (now (track .entry)) first n)))) × (r ≡ length (take count (bytesOf (part (now (track .entry)) first n)))) ⌝ }
+    ensures { λ r. ⌜ Puts (now (storage .entry)) at count (bytesOf (part (now (track .entry)) first n)) (now (storage .exit)) r ⌝ }
 {
     let m = lesser(count, n as u32);
     put_cells(track, first as usize, storage, at, m as usize);

@@ -1,56 +1,50 @@
+-- `read::is_empty` meets its contract: a line a read. Assumes nothing.
+use Rattle.read.specs.Read.{isEmpty}
 use borrow.Author.Needs.{needs}
 use Rattle.read.proofs.is_empty.Statement.{statement}
 use Rattle.read.proofs.is_empty.Tie as tie
-use Rattle.read.proofs.is_empty.Reads as reads
-use Rattle.read.proofs.is_empty.Lts as lts
 
--- src/lib.rt:32:27
 enum-told : tie.Need-enum-told
 enum-told c = search needs
 
--- src/lib.rt:33:27
 enum-told-2 : tie.Need-enum-told-2
 enum-told-2 c = search needs
 
--- src/lib.rt:34:28
 enum-told-3 : tie.Need-enum-told-3
 enum-told-3 c = search needs
 
--- src/lib.rt:35:27
 enum-told-4 : tie.Need-enum-told-4
 enum-told-4 c = search needs
 
--- src/lib.rt:36:30
 enum-told-5 : tie.Need-enum-told-5
 enum-told-5 c = search needs
 
--- src/lib.rt:37:26
 enum-told-6 : tie.Need-enum-told-6
 enum-told-6 c = search needs
 
--- src/lib.rt:28:1
 returns : tie.Need-returns
-returns c = ?
+unfolding isEmpty
+returns c = rw (c .enum-told .given .1)
 
--- src/lib.rt:28:1
 returns-2 : tie.Need-returns-2
-returns-2 c = ?
+unfolding isEmpty
+returns-2 c = rw (c .before .enum-told2 .given .1)
 
--- src/lib.rt:28:1
 returns-3 : tie.Need-returns-3
-returns-3 c = ?
+unfolding isEmpty
+returns-3 c = rw (c .enum-told3 .given .1)
 
--- src/lib.rt:28:1
 returns-4 : tie.Need-returns-4
-returns-4 c = ?
+unfolding isEmpty
+returns-4 c = rw (c .before .enum-told4 .given .1)
 
--- src/lib.rt:28:1
 returns-5 : tie.Need-returns-5
-returns-5 c = ?
+unfolding isEmpty
+returns-5 c = rw (c .before .enum-told5 .given .1)
 
--- src/lib.rt:28:1
 returns-6 : tie.Need-returns-6
-returns-6 c = ?
+unfolding isEmpty
+returns-6 c = rw (c .before .enum-told6 .given .1)
 
 pub is-empty-spec : {M : Type 1} → statement M
 is-empty-spec =

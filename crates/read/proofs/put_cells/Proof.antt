@@ -1,62 +1,64 @@
+-- `read::put_cells` meets its contract. The invariant: the bytes of the cells passed are laid over storage as it was. Assumes nothing.
+use Prim.Native.Nat.{_-_, _≤_}
+use mathlib.Core.Path.{_≡_, refl, sym}
+use native.Mathlib.Omega.{arith}
+use lib.ListN.{length, take, length-set}
+use Rattle.cells.specs.Bytes.{part, overlay}
+use Rattle.cells.specs.Cells.{bytesOf}
+use Rattle.cells.proofs.Laws.{overlay-none}
+use Rattle.read.proofs.Laws.{cells-more, cells-all}
 use borrow.Author.Needs.{needs}
 use Rattle.read.proofs.put_cells.Statement.{statement}
 use Rattle.read.proofs.put_cells.Tie as tie
-use Rattle.read.proofs.put_cells.Reads as reads
-use Rattle.read.proofs.put_cells.Lts as lts
 
 abbrev Inv-loop : tie.InvT-loop
-Inv-loop track first storage₀ at m i₀ storage i = ?
+Inv-loop track first storage₀ at m i₀ storage i =
+    (storage ≡ overlay storage₀ at (take i (bytesOf (part track first m)))) × (length storage ≡ length storage₀) × (i ≤ m)
 
 abbrev μ-loop : tie.MeasureT-loop
-μ-loop track first storage₀ at m i₀ storage i = ?
+μ-loop track first storage₀ at m i₀ storage i = m - i
 
--- src/lib.rt:85:5
 loop-holds : tie.Need-loop-holds Inv-loop μ-loop
-loop-holds c = ?
+loop-holds c = (sym (overlay-none _ _), refl, omega arith)
 
--- src/lib.rt:86:34
 add-storage : tie.Need-add-storage Inv-loop μ-loop
-add-storage c = ?
+add-storage c = search (needs, c .before .before .pre .0 .ends (omega arith))
 
--- src/lib.rt:86:28
 mul-storage : tie.Need-mul-storage Inv-loop μ-loop
-mul-storage c = ?
+mul-storage c = search (needs, c .before .before .pre .0 .ends (omega arith))
 
--- src/lib.rt:86:28
 shared-slice-read-storage : tie.Need-shared-slice-read-storage Inv-loop μ-loop
-shared-slice-read-storage c = ?
+shared-slice-read-storage c = search (needs, c .before .before .before .pre .0 .ends (omega arith))
 
--- src/lib.rt:86:27
 cast-storage : tie.Need-cast-storage Inv-loop μ-loop
-cast-storage c = ?
+cast-storage c = search needs
 
--- src/lib.rt:86:17
 add-storage-2 : tie.Need-add-storage-2 Inv-loop μ-loop
-add-storage-2 c = ?
+add-storage-2 c = search needs
 
--- src/lib.rt:86:9
 slice-write-storage : tie.Need-slice-write-storage Inv-loop μ-loop
-slice-write-storage c = ?
+slice-write-storage c = search needs
 
--- src/lib.rt:87:9
 add-i : tie.Need-add-i Inv-loop μ-loop
-add-i c = ?
+add-i c = search needs
 
--- src/lib.rt:85:5
 loop-less : tie.Need-loop-less Inv-loop μ-loop
-loop-less c = ?
+loop-less c = search needs
 
--- src/lib.rt:85:5
 loop-again : tie.Need-loop-again Inv-loop μ-loop
-loop-again c = ?
+loop-again c =
+    let b = c .before .before .before in
+    let a = b .args in
+    let l = c .before .before .loop in
+    (rw (l .inv .0) (cells-more (a .track .now) (a .first) (a .m) (a .storage .now) (a .at) (l .i) (b .pre .0) (b .pre .1) (omega arith)), simp length-set (l .inv .1), omega arith)
 
--- src/lib.rt:80:1
 same-length : tie.Need-same-length Inv-loop μ-loop
-same-length c = ?
+same-length c = search needs
 
--- src/lib.rt:80:1
 returns : tie.Need-returns Inv-loop μ-loop
-returns c = ?
+returns c =
+    let e : c .before .loop .i ≡ c .before .before .args .m = omega arith in
+    cells-all _ _ _ _ _ _ _ (c .before .before .pre .0) e (c .before .loop .inv .0)
 
 pub put-cells-spec : {M : Type 1} → statement M
 put-cells-spec =

@@ -1,50 +1,53 @@
+-- `read::put_sent` meets its contract. The invariant: the bytes passed are laid over storage as it was. Assumes nothing.
+use Prim.Native.Nat.{_-_, _≤_}
+use mathlib.Core.Path.{_≡_, refl, sym}
+use native.Mathlib.Omega.{arith}
+use lib.ListN.{length, take, length-set}
+use Rattle.cells.specs.Bytes.{overlay}
+use Rattle.cells.proofs.Laws.{overlay-none}
+use Rattle.read.proofs.Laws.{put-more}
 use borrow.Author.Needs.{needs}
 use Rattle.read.proofs.put_sent.Statement.{statement}
 use Rattle.read.proofs.put_sent.Tie as tie
-use Rattle.read.proofs.put_sent.Reads as reads
-use Rattle.read.proofs.put_sent.Lts as lts
 
 abbrev Inv-loop : tie.InvT-loop
-Inv-loop storage₀ at m bytes i₀ storage i = ?
+Inv-loop storage₀ at m bytes i₀ storage i =
+    (storage ≡ overlay storage₀ at (take i bytes)) × (length storage ≡ length storage₀) × (i ≤ m)
 
 abbrev μ-loop : tie.MeasureT-loop
-μ-loop storage₀ at m bytes i₀ storage i = ?
+μ-loop storage₀ at m bytes i₀ storage i = m - i
 
--- src/lib.rt:73:5
 loop-holds : tie.Need-loop-holds Inv-loop μ-loop
-loop-holds c = ?
+loop-holds c = (sym (overlay-none _ _), refl, omega arith)
 
--- src/lib.rt:74:27
 array-read-storage : tie.Need-array-read-storage Inv-loop μ-loop
-array-read-storage c = ?
+array-read-storage c = search needs
 
--- src/lib.rt:74:17
 add-storage : tie.Need-add-storage Inv-loop μ-loop
-add-storage c = ?
+add-storage c = search needs
 
--- src/lib.rt:74:9
 slice-write-storage : tie.Need-slice-write-storage Inv-loop μ-loop
-slice-write-storage c = ?
+slice-write-storage c = search needs
 
--- src/lib.rt:75:9
 add-i : tie.Need-add-i Inv-loop μ-loop
-add-i c = ?
+add-i c = search needs
 
--- src/lib.rt:73:5
 loop-less : tie.Need-loop-less Inv-loop μ-loop
-loop-less c = ?
+loop-less c = search needs
 
--- src/lib.rt:73:5
 loop-again : tie.Need-loop-again Inv-loop μ-loop
-loop-again c = ?
+loop-again c =
+    let a = c .before .before .args in
+    let l = c .before .loop in
+    (rw (l .inv .0) (put-more (a .storage .now) (a .at) (a .t1) (l .i) (omega arith) (omega arith)), simp length-set (l .inv .1), omega arith)
 
--- src/lib.rt:68:1
 same-length : tie.Need-same-length Inv-loop μ-loop
-same-length c = ?
+same-length c = search needs
 
--- src/lib.rt:68:1
 returns : tie.Need-returns Inv-loop μ-loop
-returns c = ?
+returns c =
+    let e : c .before .loop .i ≡ c .before .before .args .m = omega arith in
+    rw (← e) (c .before .loop .inv .0)
 
 pub put-sent-spec : {M : Type 1} → statement M
 put-sent-spec =

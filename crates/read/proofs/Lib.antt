@@ -1,0 +1,2 @@
+-- Laws of the reads.
+pub mod Laws
