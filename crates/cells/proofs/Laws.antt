@@ -3,10 +3,11 @@ use Prim.Native.Nat.{ℕ, zero, suc, _+_, _-_, _<_, _≤_, min}
 use mathlib.Core.Path.{_≡_, refl, sym, ap, ap₂, _∙_}
 use mathlib.Core.List.{List, [], _∷_, _++_, append-nil, append-assoc}
 use native.Mathlib.Omega.{arith}
+use native.Mathlib.Numerals.{add-one}
 use native.Mathlib.Nat.{add-zero}
 use native.Mathlib.Decide.{decLe}
 use lib.ListN.{length, getD, take, drop, set, length-append, length-take, length-drop, length-map, take-append-drop, List·getD-map, List·getD-append}
-use lib.Seq.{length-take-le, take-take, take-all, take-append-seam, take-at, drop-at, drop-append-add, drop-drop, getD-append-add, drop-cons, set-at, append-snoc, getD-take, getD-drop}
+use lib.Seq.{length-take-le, take-suc, take-take, take-all, take-append-seam, take-at, drop-at, drop-append-add, drop-drop, getD-append-add, drop-cons, set-at, append-snoc, getD-take, getD-drop}
 use Rattle.cells.specs.Bytes.{part, overlay, padded}
 use Rattle.cells.specs.Cells.{byteOf, bytesOf}
 
@@ -65,6 +66,15 @@ overlay-snoc l at v x h =
     let long : length (take at l ++ v) ≡ at + length v = simp (length-append, length-take) (omega arith) in
     let more : at + length (v ++ (x ∷ [])) ≡ suc (at + length v) = simp length-append (omega arith) in
     rw (drop-cons l (at + length v) 0 h, set-at (take at l ++ v) _ _ x (at + length v) long, more, ← append-assoc (take at l) v (x ∷ []), append-snoc)
+
+-- one more of a list's elements, stored behind those that are laid over
+pub put-more : (l : List ℕ) (at : ℕ) (v : List ℕ) (i : ℕ) → at + i < length l → i < length v
+    → set (overlay l at (take i v)) (at + i) (getD v i 0) ≡ overlay l at (take (i + 1) v)
+put-more l at v i h k =
+    let n : length (take i v) ≡ i = length-take-le i v (omega arith) in
+    ap (λ (j : ℕ). set (overlay l at (take i v)) (at + j) (getD v i 0)) (sym n)
+    ∙ overlay-snoc l at (take i v) (getD v i 0) (omega arith)
+    ∙ ap (overlay l at) (sym (ap (λ (j : ℕ). take j v) (add-one i) ∙ take-suc v i 0 k))
 
 -- what is laid over, taken out again
 pub part-overlay : (l : List ℕ) (at : ℕ) (v : List ℕ) → at + length v ≤ length l → part (overlay l at v) at (length v) ≡ v

@@ -1,25 +1,12 @@
 -- Laws of the bytes that Sense moves, and of putting them into storage. Assumes nothing.
-use Prim.Native.Nat.{ℕ, zero, suc, _+_, _≤_, _<_, min}
+use Prim.Native.Nat.{ℕ, zero, suc, _≤_, _<_, min}
 use mathlib.Core.Path.{_≡_, refl, sym, ap, _∙_}
-use mathlib.Core.List.{List}
-use native.Mathlib.Numerals.{add-one}
 use native.Mathlib.Omega.{arith}
 use native.Mathlib.Decide.{decLt}
-use lib.ListN.{length, getD, take, set, replicate}
-use lib.Seq.{length-take-le, take-suc, take-all}
-use Rattle.cells.specs.Bytes.{overlay}
-use Rattle.cells.proofs.Laws.{overlay-snoc}
+use lib.ListN.{getD, take, replicate}
+use lib.Seq.{take-all}
 use Rattle.held.specs.declared.Stands.{Stands}
 use Rattle.control.specs.Control.{senseBytes}
-
--- one more of a list's elements, stored behind those that are laid over
-pub put-more : (l : List ℕ) (at : ℕ) (v : List ℕ) (i : ℕ) → at + i < length l → i < length v
-    → set (overlay l at (take i v)) (at + i) (getD v i 0) ≡ overlay l at (take (i + 1) v)
-put-more l at v i h k =
-    let n : length (take i v) ≡ i = length-take-le i v (omega arith) in
-    ap (λ (j : ℕ). set (overlay l at (take i v)) (at + j) (getD v i 0)) (sym n)
-    ∙ overlay-snoc l at (take i v) (getD v i 0) (omega arith)
-    ∙ ap (overlay l at) (sym (ap (λ (j : ℕ). take j v) (add-one i) ∙ take-suc v i 0 k))
 
 -- ---- the bytes of sense
 

@@ -4,14 +4,13 @@ use Prim.Native.Nat.{ℕ, _+_, _-_, _<_, _≤_, min}
 use mathlib.Core.Path.{_≡_, refl, sym, ap, ap₂, _∙_, subst}
 use mathlib.Core.Bool.{Bool, true, false}
 use mathlib.Core.List.{List, _++_, append-assoc}
-use native.Mathlib.Numerals.{add-one}
 use native.Mathlib.Omega.{arith}
 use native.Mathlib.Decide.{decLt}
 use lib.ListN.{length, getD, take, drop, set, length-take, length-drop, length-append}
-use lib.Seq.{length-take-le, take-suc, take-all, take-take}
+use lib.Seq.{take-all, take-take}
 use Rattle.cells.specs.Bytes.{part, overlay}
 use Rattle.cells.specs.Cells.{byteOf, bytesOf, marks}
-use Rattle.cells.proofs.Laws.{length-bytesOf, getD-bytesOf, take-bytesOf, getD-part, overlay-snoc, overlay-two}
+use Rattle.cells.proofs.Laws.{length-bytesOf, getD-bytesOf, take-bytesOf, getD-part, overlay-two, put-more}
 use Rattle.rows.specs.declared.Row.{Row}
 use Rattle.words.specs.declared.Word.{Word}
 use Rattle.areas.specs.declared.Area.{Area}
@@ -25,7 +24,7 @@ use Rattle.work.specs.declared.Work.{Work}
 use Rattle.work.specs.declared.Work.the-variants.{Home, Record}
 use Rattle.work.specs.declared.Got.{Got}
 use Rattle.work.specs.declared.Got.the-variants.{Sees, Fails}
-use Rattle.work.specs.Work.{gets, sawBy, sent}
+use Rattle.work.specs.Work.{idOf, gets, sawBy, sent}
 use Rattle.work.proofs.Seen.{record-key, record-body, key-lies, body-lies, home-seen, home-lies}
 use Rattle.outcome.specs.declared.Done.{Done}
 use Rattle.outcome.specs.Outcome.{checked}
@@ -36,15 +35,6 @@ use Rattle.plan.specs.Plan.{readWork, readPlan}
 use Rattle.read.specs.Read.{offered, namedBytes, isEmpty, readDone, moved, readGot, readBy, reads, Looked, keyBytes, bodyBytes, LieIf, KeyData, Puts}
 
 -- ---- bytes put into storage
-
--- one more of a list's elements, stored behind those that are laid over
-pub put-more : (l : List ℕ) (at : ℕ) (v : List ℕ) (i : ℕ) → at + i < length l → i < length v
-    → set (overlay l at (take i v)) (at + i) (getD v i 0) ≡ overlay l at (take (i + 1) v)
-put-more l at v i h k =
-    let n : length (take i v) ≡ i = length-take-le i v (omega arith) in
-    ap (λ (j : ℕ). set (overlay l at (take i v)) (at + j) (getD v i 0)) (sym n)
-    ∙ overlay-snoc l at (take i v) (getD v i 0) (omega arith)
-    ∙ ap (overlay l at) (sym (ap (λ (j : ℕ). take j v) (add-one i) ∙ take-suc v i 0 k))
 
 -- so many bytes that lie on the track are so many
 long : (t : List ℕ) (first n : ℕ) → LieIf t first n → length (bytesOf (part t first n)) ≡ n
@@ -98,7 +88,7 @@ lies-by t a b n e h = subst (λ (x : Area). LieIf t (x .first) n) (sym e) h
 -- so many of a count's 8 bytes
 module _ (n : Counts) (count m : ℕ) (e : m ≡ min count 8) where
   sent-taken : take m (sent n) ≡ take count (sent n)
-  unfolding sent
+  unfolding sent idOf
   sent-taken = go (decLt 8 count)
     where
       go : Dec (8 < count) → take m (sent n) ≡ take count (sent n)
@@ -106,7 +96,7 @@ module _ (n : Counts) (count m : ℕ) (e : m ≡ min count 8) where
       go (no h) = ap (λ (k : ℕ). take k (sent n)) {x = m} {y = count} (omega arith)
 
   pub sent-put : (l v out : List ℕ) (at : ℕ) → v ≡ sent n → out ≡ overlay l at (take m v) → Puts l at count (sent n) out m
-  unfolding sent
+  unfolding sent idOf
   sent-put l v out at p q = record {
     storage = q ∙ ap (λ (x : List ℕ). overlay l at (take m x)) p ∙ ap (overlay l at) sent-taken;
     moved = e ∙ sym (length-take count (sent n));
@@ -167,11 +157,11 @@ module _ (t : List ℕ) (c : ℕ) (n : Counts) where
   two-long l = length-append (keyBytes t c n) (bodyBytes t c n) ∙ ap₂ (λ (x y : ℕ). x + y) (long t _ (n .kl) (l .key)) (long t _ (n .dl) (l .body))
 
   three-long : KeyData t c n → length (sent n ++ (keyBytes t c n ++ bodyBytes t c n)) ≡ 8 + n .kl + n .dl
-  unfolding sent
+  unfolding sent idOf
   three-long l = omega (arith, length-append (sent n) (keyBytes t c n ++ bodyBytes t c n), two-long l)
 
   named-long : (r : Read) → gets t (readWork r c) ≡ Sees n → length (bytesFor t r c n) ≡ namedBytes r n
-  unfolding readWork namedBytes sent
+  unfolding readWork namedBytes sent idOf
   named-long ReadHome e = long t 0 5 (record { ends = λ _. omega (arith, home-lies t n e) })
   named-long ReadZero e = three-long (all-lie e)
   named-long ReadCount e = refl

@@ -4,9 +4,8 @@ use mathlib.Core.Path.{_≡_, refl, sym}
 use native.Mathlib.Omega.{arith}
 use lib.ListN.{length, take, length-set}
 use Rattle.cells.specs.Bytes.{overlay}
-use Rattle.cells.proofs.Laws.{overlay-none}
+use Rattle.cells.proofs.Laws.{overlay-none, put-more}
 use Rattle.control.specs.Control.{senseBytes}
-use Rattle.control.proofs.Laws.{put-more}
 use borrow.Author.Needs.{needs}
 use Rattle.control.proofs.put_sense.Statement.{statement}
 use Rattle.control.proofs.put_sense.Tie as tie

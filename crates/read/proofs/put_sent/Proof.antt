@@ -4,8 +4,7 @@ use mathlib.Core.Path.{_≡_, refl, sym}
 use native.Mathlib.Omega.{arith}
 use lib.ListN.{length, take, length-set}
 use Rattle.cells.specs.Bytes.{overlay}
-use Rattle.cells.proofs.Laws.{overlay-none}
-use Rattle.read.proofs.Laws.{put-more}
+use Rattle.cells.proofs.Laws.{overlay-none, put-more}
 use borrow.Author.Needs.{needs}
 use Rattle.read.proofs.put_sent.Statement.{statement}
 use Rattle.read.proofs.put_sent.Tie as tie
