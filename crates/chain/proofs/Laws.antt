@@ -21,18 +21,25 @@ use Rattle.pack.specs.Tracks.{startOf, trackAt, withTrack}
 use Rattle.pack.proofs.Laws.{lent-is, lent-back}
 use Rattle.commands.specs.declared.Control.{Control}
 use Rattle.commands.specs.declared.Command.{Command}
-use Rattle.commands.specs.declared.Command.the-variants.{Controls}
+use Rattle.commands.specs.declared.Command.the-variants.{Controls, Searches, Reads}
 use Rattle.commands.specs.Commands.{commandOf}
 use Rattle.held.specs.declared.Stands.{Stands}
 use Rattle.held.specs.declared.Orders.{Orders}
 use Rattle.held.specs.declared.Held.{Held}
 use Rattle.held.specs.Held.{rested}
+use Rattle.commands.specs.declared.Search.{Search}
+use Rattle.commands.specs.declared.Read.{Read}
+use Rattle.plan.specs.Plan.{SelectedOn}
+use Rattle.search.specs.Search.{searches}
+use Rattle.read.specs.Read.{ReadDone, readDone, reads}
 use Rattle.outcome.specs.declared.Done.{Done}
 use Rattle.outcome.specs.Outcome.{checked}
 use Rattle.control.specs.Control.{controls, puts}
 use Rattle.words.specs.Words.{Reaches}
 use Rattle.settle.specs.Settle.{heldAfter, storageAfter}
 use Rattle.chain.specs.Act.{Acted, acted, built, unknown, obeys, acts}
+use Rattle.chain.specs.Legal.{Legal}
+use Rattle.chain.proofs.Legal.{selected-on}
 use Rattle.chain.specs.Step.{World, world, under, stops, settled, obeyed, takes, step}
 
 acted-eq : {d e : Done} {s u t v : List ℕ} → d ≡ e → s ≡ u → t ≡ v → acted d s t ≡ acted e u v
@@ -49,6 +56,15 @@ module _ (g : Shape) (c : Command) (s : Stands) (o : Orders) (w : Word) (st t : 
   unfolding obeys
   control-obeyed k d u e p q = acted-eq p q refl ∙ ap (λ (x : Command). obeys g x s o w st t) (sym e)
 
+  pub search-obeyed : (k : Search) (d : Done) → c ≡ Searches k → d ≡ searches k s o w st t → acted d st t ≡ obeys g c s o w st t
+  unfolding obeys
+  search-obeyed k d e p = acted-eq p refl refl ∙ ap (λ (x : Command). obeys g x s o w st t) (sym e)
+
+  pub read-obeyed : (k : Read) (d : Done) (u : List ℕ) → c ≡ Reads k → readDone d u ≡ reads k s o w st t → acted d u t ≡ obeys g c s o w st t
+  unfolding obeys
+  read-obeyed k d u e p =
+      acted-eq (ap (λ (x : ReadDone). x .done) p) (ap (λ (x : ReadDone). x .storage) p) refl ∙ ap (λ (x : Command). obeys g x s o w st t) (sym e)
+
   -- a command that is not built, or no command
   pub not-obeyed : (x : Command) (d : Done) → obeys g x s o w st t ≡ unknown s o w st t → c ≡ x → d ≡ checked s o (w .count) UnknownCode
       → acted d st t ≡ obeys g c s o w st t
@@ -60,6 +76,14 @@ module _ (g : Shape) (c : Command) (s : Stands) (o : Orders) (w : Word) (st t : 
   by-code x a e p q = q ∙ ap (λ (y : Command). obeys g y s o w st t) (p ∙ ap built e)
 
 -- ---- a command on the track under the head
+
+-- the cells that are lent are the track, on which the selected record is
+pub lent-selected : (g : Shape) (h : Held) (s cells : List ℕ) (a : ℕ) → Legal g (world h s cells) → a ≡ startOf g (h .stands .cylinder) (h .stands .head)
+    → SelectedOn (marks (take (a + 4096 - a) (drop a cells))) (h .orders .selection)
+unfolding under
+lent-selected g h s cells a L e =
+    subst (λ (t : List ℕ). SelectedOn (marks t) (h .orders .selection)) (sym (lent-is cells a ∙ ap (trackAt cells) e))
+    (selected-on _ (h .orders) (L .ordered))
 
 module _ (g : Shape) (h : Held) (w : Word) (s cells : List ℕ) where
   there : Acted

@@ -38,7 +38,8 @@ use Rattle.commands.specs.declared.Command.the-variants.{Controls, Searches, Re
 use Rattle.commands.specs.Commands.{commandOf, searchOf, readOf, writeOf, looks, worksHome, selects}
 use Rattle.hunt.specs.Hunt as Hunt
 use Rattle.hunt.proofs.Inside.{space-in}
-use Rattle.held.specs.declared.Selection.the-variants.{Nothing}
+use Rattle.held.specs.declared.Selection.{Selection}
+use Rattle.held.specs.declared.Selection.the-variants.{Nothing, On}
 use Rattle.held.specs.declared.Stands.{Stands}
 use Rattle.held.specs.declared.Orders.{Orders}
 use Rattle.held.specs.declared.Held.{Held}
@@ -48,6 +49,19 @@ use Rattle.outcome.specs.declared.Ending.{Ending}
 use Rattle.outcome.specs.declared.Ending.the-variants.{Normal}
 use Rattle.outcome.specs.Outcome.{done, standing, sensing, placed, sought, ordered, after, checked}
 use Rattle.control.specs.Control.{afterControl, noOp, senses, senseBytes, soughtAt, addressed, arrived, seeks, masked, masks, spaces, controls, puts}
+use Rattle.commands.specs.declared.Search.{Search}
+use Rattle.commands.specs.declared.Read.{Read}
+use Rattle.work.specs.declared.Work.{Work}
+use Rattle.work.specs.declared.Got.{Got}
+use Rattle.work.specs.declared.Got.the-variants.{Sees, Fails}
+use Rattle.work.specs.Work.{Seen}
+use Rattle.plan.specs.declared.Job.{Job}
+use Rattle.plan.specs.declared.Plan.{Plan}
+use Rattle.plan.specs.declared.Plan.the-variants.{Refuses, Works}
+use Rattle.plan.specs.Plan.{mostTally, SelectedOn, searchWork, readWork}
+use Rattle.plan.proofs.Records.{Leaves, Planned, search-planned, read-planned}
+use Rattle.search.specs.Search.{searched, searchGot, searchBy, searches}
+use Rattle.read.specs.Read.{ReadDone, offered, moved, readGot, readBy, reads}
 use Rattle.settle.specs.Settle.{goesOn, onward, stride, statusAfter, heldAfter, storageAfter}
 use Rattle.chain.specs.Act.{Acted, built, unknown, obeys, acts}
 use Rattle.chain.specs.Step.{World, world, under, stops, jumped, settled, obeyed, takes, step}
@@ -130,6 +144,60 @@ module _ (g : Shape) (s : Stands) (ok : Standing g s) (o : Orders) (t : List ℕ
         pick-all (λ (d : Done). Left g s d t) (looks (commandOf (o .before)))
         (placed-left _ (space-in t (s .place) (worksHome (commandOf (o .before))) wh) Normal 0 0 false) (checked-left WrongBefore)
 
+-- ---- what a search or read leaves, by its plan
+
+selection-on : (m : List Bool) (o : Orders) (x : Selection) → selectionFits m o x ≡ true → SelectedOn m x
+unfolding selectionFits SelectedOn
+selection-on m o Nothing e = tt
+selection-on m o (On spot) e = e
+
+-- what is selected is a record of the track
+pub selected-on : (m : List Bool) (o : Orders) → Ordered m o → SelectedOn m (o .selection)
+selected-on m o k = selection-on m o (o .selection) (k .selected)
+
+leaves-ordered : (m : List Bool) (o : Orders) (code : ℕ) (whole : Bool) (tally : ℕ) (x : Selection) (b : Bool) → selects (commandOf code) ≡ b
+    → legal (o .mask) ≡ true → tally ≤ mostTally → Leaves m b x → Ordered m (after o code whole tally x)
+unfolding after ordered selectionFits
+leaves-ordered m o code whole tally Nothing b q l h k = record { mask = l; tally = h; selected = ap not (q ∙ k) }
+leaves-ordered m o code whole tally (On spot) b q l h k = record { mask = l; tally = h; selected = k }
+
+module _ (g : Shape) (s : Stands) (ok : Standing g s) (o : Orders) (t : List ℕ) (fit : Ordered (marks t) o) (w : Word) (b : Bool) (code : selects (commandOf (w .code)) ≡ b) where
+  job-left : (work : ℕ → Work) (j : Job) → Planned (marks t) b work (Works j) → (e : Ending) (moved wanted : ℕ) (whole : Bool)
+      → Left g s (done e moved wanted true (placed s (j .place)) (after o (w .code) whole (j .tally) (j .selection))) t
+  unfolding placed standing
+  job-left work j p e moved wanted whole = record {
+    standing = record { on = ok .on; place = p .0 };
+    chosen = here refl refl (leaves-ordered (marks t) o (w .code) whole (j .tally) (j .selection) b code (fit .mask) (p .1) (p .2));
+  }
+
+  module _ (st : List ℕ) where
+    search-got-left : (c : Search) (j : Job) (x : Seen) (y : Got) → Planned (marks t) b (searchWork c) (Works j) → Left g s (searchGot c s o w st j x y) t
+    unfolding searchGot searched
+    search-got-left c j x (Sees n) p = job-left (searchWork c) j p _ _ _ _
+    search-got-left c j x (Fails row) p = checked-left g s ok o t fit w row
+
+    pub search-left : (c : Search) (p : Plan) → Planned (marks t) b (searchWork c) p → Left g s (searchBy c s o w st t p) t
+    unfolding searchBy
+    search-left c (Refuses row) p = checked-left g s ok o t fit w row
+    search-left c (Works j) p = search-got-left c j _ _ p
+
+    -- a read leaves storage of the size that it had, too
+    ReadLeft : ReadDone → Type 0
+    ReadLeft x = Left g s (x .done) t × (length (x .storage) ≡ length st)
+
+    module _ (r : Reaches st w) where
+      read-got-left : (c : Read) (j : Job) (x : Seen) (y : Got) → Planned (marks t) b (readWork c) (Works j) → ReadLeft (readGot c s o w st j x y)
+      unfolding readGot moved ReadLeft
+      read-got-left c j x (Sees n) p =
+          (job-left (readWork c) j p _ _ _ _, length-overlay st (w .address) _ (omega (arith, length-take (w .count) (offered c n x), r .area)))
+      read-got-left c j x (Fails row) p = (checked-left g s ok o t fit w row, refl)
+
+      pub read-left : (c : Read) (p : Plan) → Planned (marks t) b (readWork c) p
+          → Left g s (readBy c s o w st t p .done) t × (length (readBy c s o w st t p .storage) ≡ length st)
+      unfolding readBy ReadLeft
+      read-left c (Refuses row) p = (checked-left g s ok o t fit w row, refl)
+      read-left c (Works j) p = read-got-left c j _ _ p
+
 -- ---- sizes
 
 puts-short : (c : Control) (s : Stands) (w : Word) → length (puts c s w) ≤ w .count
@@ -145,22 +213,28 @@ module _ (g : Shape) (s : Stands) (ok : Standing g s) (o : Orders) (t : List ℕ
   unfolding unknown
   unknown-fine = record { left = checked-left g s ok o t fit w UnknownCode; storage = refl; track = refl }
 
-  -- a command that is built is a control command, which selects nothing
-  control-coded : (c : Command) → commandOf (w .code) ≡ c → Fine g s (length st) (length t) (obeys g (built c) s o w st t)
-  unfolding obeys built
-  control-coded (Controls c) e = record {
+  -- by the command
+  by-command : (c : Command) → commandOf (w .code) ≡ c → Fine g s (length st) (length t) (obeys g (built c) s o w st t)
+  unfolding obeys built searches reads selects
+  by-command (Controls c) e = record {
     left = controls-left g s ok o t fit w (ap selects e ∙ control-selects c) wh c st;
     storage = length-overlay st (w .address) (puts c s w) (omega (arith, puts-short c s w, r .area));
     track = refl;
   }
-  control-coded (Searches c) e = unknown-fine
-  control-coded (Reads c) e = unknown-fine
-  control-coded (Writes c) e = unknown-fine
-  control-coded Unknown e = unknown-fine
+  by-command (Searches c) e = record {
+    left = search-left g s ok o t fit w _ (ap selects e) st c _ (search-planned t wh s o (selected-on (marks t) o fit) c);
+    storage = refl;
+    track = refl;
+  }
+  by-command (Reads c) e =
+      let l = read-left g s ok o t fit w _ (ap selects e) st r c _ (read-planned t wh s o (selected-on (marks t) o fit) c) in
+      record { left = l .0; storage = l .1; track = refl }
+  by-command (Writes c) e = unknown-fine
+  by-command Unknown e = unknown-fine
 
   pub acts-fine : Fine g s (length st) (length t) (acts g s o w st t)
   unfolding acts
-  acts-fine = control-coded (commandOf (w .code)) refl
+  acts-fine = by-command (commandOf (w .code)) refl
 
 -- ---- a step
 

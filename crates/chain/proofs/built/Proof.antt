@@ -7,17 +7,17 @@ use Rattle.chain.proofs.built.Tie as tie
 enum-known-c : tie.Need-enum-known-c
 enum-known-c c = search needs
 
+enum-known-c-2 : tie.Need-enum-known-c-2
+enum-known-c-2 c = search needs
+
+enum-known-c-3 : tie.Need-enum-known-c-3
+enum-known-c-3 c = search needs
+
 enum-told : tie.Need-enum-told
 enum-told c = search needs
 
 enum-told-2 : tie.Need-enum-told-2
 enum-told-2 c = search needs
-
-enum-told-3 : tie.Need-enum-told-3
-enum-told-3 c = search needs
-
-enum-told-4 : tie.Need-enum-told-4
-enum-told-4 c = search needs
 
 returns : tie.Need-returns
 unfolding built
@@ -25,29 +25,29 @@ returns c = rw (c .before .c .given .1)
 
 returns-2 : tie.Need-returns-2
 unfolding built
-returns-2 c = rw (c .enum-told .given .1)
+returns-2 c = rw (c .before .c2 .given .1)
 
 returns-3 : tie.Need-returns-3
 unfolding built
-returns-3 c = rw (c .enum-told2 .given .1)
+returns-3 c = rw (c .before .c3 .given .1)
 
 returns-4 : tie.Need-returns-4
 unfolding built
-returns-4 c = rw (c .enum-told3 .given .1)
+returns-4 c = rw (c .enum-told .given .1)
 
 returns-5 : tie.Need-returns-5
 unfolding built
-returns-5 c = rw (c .enum-told4 .given .1)
+returns-5 c = rw (c .enum-told2 .given .1)
 
 pub built-spec : {M : Type 1} → statement M
 built-spec =
     tie.close
     (tie.spec
     enum-known-c
+    enum-known-c-2
+    enum-known-c-3
     enum-told
     enum-told-2
-    enum-told-3
-    enum-told-4
     returns
     returns-2
     returns-3

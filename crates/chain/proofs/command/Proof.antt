@@ -1,7 +1,7 @@
 -- `chain::command` meets its contract: only the track's cells are lent, they come back in their place, and the channel ends what was done.
 -- Assumes nothing.
 use native.Mathlib.Omega.{arith}
-use Rattle.chain.proofs.Laws.{commanded}
+use Rattle.chain.proofs.Laws.{commanded, lent-selected}
 use borrow.Author.Needs.{needs}
 use Rattle.chain.proofs.command.Statement.{statement}
 use Rattle.chain.proofs.command.Tie as tie
@@ -25,7 +25,10 @@ part-act-end : tie.Need-part-act-end
 part-act-end c = search needs
 
 act-requires : tie.Need-act-requires
-act-requires c κs = search needs
+act-requires c κs =
+    let s = c .before .before .before .before .before .before .before .before .before .before in
+    let at = c .before .before .start-of in
+    (s .pre .1, search needs, lent-selected _ _ _ _ _ (s .pre .0) (at .ensures .0))
 
 settle-requires : tie.Need-settle-requires
 settle-requires c κs =
