@@ -1,3 +1,6 @@
 -- What is claimed, proved.
 pub mod Figures
 pub mod Pinned
+pub mod Obeyed
+pub mod Stepped
+pub mod Demand3
