@@ -11,6 +11,7 @@ use Rattle.cells.specs.Choice.{pick, both}
 use Rattle.cells.specs.Bytes.{part}
 use Rattle.cells.specs.Cells.{bytesOf}
 use Rattle.cells.proofs.Laws.{take-bytesOf}
+use Rattle.cells.proofs.Tests.{first-picked, second-picked}
 use Rattle.rows.specs.declared.Row.{Row}
 use Rattle.rows.specs.declared.Row.the-variants.{UnreadableCount}
 use Rattle.areas.specs.declared.Area.{Area}
@@ -25,19 +26,21 @@ use Rattle.work.specs.declared.Got.the-variants.{Sees, Fails}
 use Rattle.work.specs.Work.{areaIf, named, namedBy, workReads, allRead, noCounts, countsIn, gets}
 
 module _ (t : List ℕ) (a : Area) (x : Got) where
+  pub area-good : readable t a ≡ true → x ≡ allRead t (a ∷ []) x
+  unfolding allRead
+  area-good r = sym (first-picked (readable t a) x (Fails (rowOf (a .part))) r)
+
+  pub area-bad : (row : Row) → readable t a ≡ false → row ≡ rowOf (a .part) → Fails row ≡ allRead t (a ∷ []) x
+  unfolding allRead
+  area-bad row r q = ap Fails q ∙ sym (second-picked (readable t a) x (Fails (rowOf (a .part))) r)
+
+  pub area-there : (b : Bool) (g : Got) → b ≡ true → g ≡ allRead t (a ∷ []) x → g ≡ allRead t (areaIf b a) x
+  unfolding areaIf
+  area-there b g e f = f ∙ ap (λ (z : Bool). allRead t (pick z (a ∷ []) []) x) (sym e)
+
   pub not-there : (b : Bool) → b ≡ false → x ≡ allRead t (areaIf b a) x
   unfolding areaIf allRead
   not-there b e = ap (λ (z : Bool). allRead t (pick z (a ∷ []) []) x) (sym e)
-
-  pub there-good : (b : Bool) → b ≡ true → readable t a ≡ true → x ≡ allRead t (areaIf b a) x
-  unfolding areaIf allRead
-  there-good b e r =
-      sym (ap (λ (z : Bool). allRead t (pick z (a ∷ []) []) x) e ∙ ap (λ (z : Bool). pick z x (Fails (rowOf (a .part)))) r)
-
-  pub there-bad : (b : Bool) (row : Row) → b ≡ true → readable t a ≡ false → row ≡ rowOf (a .part) → Fails row ≡ allRead t (areaIf b a) x
-  unfolding areaIf allRead
-  there-bad b row e r q =
-      ap Fails q ∙ sym (ap (λ (z : Bool). allRead t (pick z (a ∷ []) []) x) e ∙ ap (λ (z : Bool). pick z x (Fails (rowOf (a .part)))) r)
 
 read-append : (t : List ℕ) (l m : List Area) (x : Got) → allRead t l (allRead t m x) ≡ allRead t (l ++ m) x
 unfolding allRead
@@ -53,9 +56,7 @@ module _ (t : List ℕ) (c : ℕ) (key body : Bool) (n : Counts) (k d : Area) (p
       ap (allRead t (areaIf x k)) e ∙ read-append t (areaIf x k) (areaIf y d) (Sees n)
       ∙ (λ i. allRead t (areaIf (u i) (p i) ++ areaIf (v i) (q i)) (Sees n))
 
--- the home address, always there
-pub home-read : (t : List ℕ) (a : Area) (g : Got) → a ≡ homeArea → g ≡ allRead t (areaIf true a) (Sees noCounts) → g ≡ allRead t (homeArea ∷ []) (Sees noCounts)
-unfolding areaIf
+pub home-read : (t : List ℕ) (a : Area) (g : Got) → a ≡ homeArea → g ≡ allRead t (a ∷ []) (Sees noCounts) → g ≡ allRead t (homeArea ∷ []) (Sees noCounts)
 home-read t a g p e = e ∙ ap (λ (x : Area). allRead t (x ∷ []) (Sees noCounts)) p
 
 -- ---- by the count area

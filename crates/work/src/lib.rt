@@ -33,18 +33,25 @@ fn is_there(named: bool, length: u16) -> bool
     0 < length
 }
 
-// An area read before what else is got, if it is there.
-fn read_if(track: &[u16], there: bool, a: Area, x: Got) -> Got
-    ensures { λ r. ⌜ r ≡ allRead (now (track .entry)) (areaIf there a) x ⌝ }
+// An area read before what else is got.
+fn read_area(track: &[u16], a: Area, x: Got) -> Got
+    ensures { λ r. ⌜ r ≡ allRead (now (track .entry)) (a ∷ []) x ⌝ }
 {
-    if !there {
-        return x;
-    }
     if areas::is_readable(track, a) {
         return x;
     }
     let part = a.part;
     Got::Fails(areas::row_of(part))
+}
+
+// The same, if the area is there.
+fn read_if(track: &[u16], there: bool, a: Area, x: Got) -> Got
+    ensures { λ r. ⌜ r ≡ allRead (now (track .entry)) (areaIf there a) x ⌝ }
+{
+    if there {
+        return read_area(track, a, x);
+    }
+    x
 }
 
 // The key and the data of a record, if they are named and there. The key's row stands before the data's.
@@ -69,7 +76,7 @@ fn read_home(track: &[u16]) -> Got
         kl: 0,
         dl: 0,
     };
-    read_if(track, true, areas::home_area(), Got::Sees(none))
+    read_area(track, areas::home_area(), Got::Sees(none))
 }
 
 // All that work reads, checked.

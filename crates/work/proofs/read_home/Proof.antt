@@ -7,11 +7,11 @@ use Rattle.work.proofs.read_home.Tie as tie
 home-area-requires : tie.Need-home-area-requires
 home-area-requires c κs = search needs
 
-read-if-requires : tie.Need-read-if-requires
-read-if-requires c κs = search needs
+read-area-requires : tie.Need-read-area-requires
+read-area-requires c κs = search needs
 
 returns : tie.Need-returns
-returns c = home-read _ _ _ (c .before .home-area .ensures) (c .read-if .ensures)
+returns c = home-read _ _ _ (c .before .home-area .ensures) (c .read-area .ensures)
 
 pub read-home-spec : {M : Type 1} → statement M
-read-home-spec = tie.close (tie.spec home-area-requires read-if-requires returns)
+read-home-spec = tie.close (tie.spec home-area-requires read-area-requires returns)
