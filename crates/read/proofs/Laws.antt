@@ -7,10 +7,10 @@ use mathlib.Core.List.{List, _++_, append-assoc}
 use native.Mathlib.Omega.{arith}
 use native.Mathlib.Decide.{decLt}
 use lib.ListN.{length, getD, take, drop, set, length-take, length-drop, length-append}
-use lib.Seq.{take-all, take-take}
+use lib.Seq.{take-all}
 use Rattle.cells.specs.Bytes.{part, overlay}
 use Rattle.cells.specs.Cells.{byteOf, bytesOf, marks}
-use Rattle.cells.proofs.Laws.{length-bytesOf, getD-bytesOf, take-bytesOf, getD-part, overlay-two, put-more}
+use Rattle.cells.proofs.Laws.{length-bytesOf, getD-bytesOf, take-bytesOf, getD-part, overlay-two, put-more, take-min}
 use Rattle.rows.specs.declared.Row.{Row}
 use Rattle.words.specs.declared.Word.{Word}
 use Rattle.areas.specs.declared.Area.{Area}
@@ -32,7 +32,8 @@ use Rattle.plan.specs.declared.Job.{Job}
 use Rattle.plan.specs.declared.Plan.{Plan}
 use Rattle.plan.specs.declared.Plan.the-variants.{Refuses, Works}
 use Rattle.plan.specs.Plan.{readWork, readPlan}
-use Rattle.read.specs.Read.{offered, namedBytes, isEmpty, readDone, moved, readGot, readBy, reads, Looked, keyBytes, bodyBytes, LieIf, KeyData, Puts}
+use Rattle.read.specs.Read.{offered, isEmpty, readDone, moved, readGot, readBy, reads}
+use Rattle.read.specs.Inside.{namedBytes, Looked, keyBytes, bodyBytes, LieIf, KeyData, Puts}
 
 -- ---- bytes put into storage
 
@@ -65,15 +66,8 @@ module _ (t : List ℕ) (first n count m : ℕ) (h : LieIf t first n) (e : m ≡
 
   area-taken : bytesOf (part t first m) ≡ take count (bytesOf (part t first n))
   unfolding part
-  area-taken = go (decLt n count) ∙ sym (take-bytesOf count (take n (drop first t)))
-    where
-      go : Dec (n < count) → bytesOf (take m (drop first t)) ≡ bytesOf (take count (take n (drop first t)))
-      go (yes h) =
-          ap (λ (k : ℕ). bytesOf (take k (drop first t))) {x = m} {y = n} (omega arith)
-          ∙ ap bytesOf (sym (take-all count (take n (drop first t)) (omega (arith, length-take n (drop first t)))))
-      go (no h) =
-          ap (λ (k : ℕ). bytesOf (take k (drop first t))) {x = m} {y = count} (omega arith)
-          ∙ ap bytesOf (sym (take-take count n (drop first t) (omega arith)))
+  area-taken =
+      ap bytesOf (ap (λ (k : ℕ). take k (drop first t)) e ∙ sym (take-min count n (drop first t))) ∙ sym (take-bytesOf count (take n (drop first t)))
 
   pub area-put : (l out : List ℕ) (at : ℕ) → out ≡ overlay l at (bytesOf (part t first m)) → Puts l at count (bytesOf (part t first n)) out m
   area-put l out at p = record {
@@ -89,11 +83,7 @@ lies-by t a b n e h = subst (λ (x : Area). LieIf t (x .first) n) (sym e) h
 module _ (n : Counts) (count m : ℕ) (e : m ≡ min count 8) where
   sent-taken : take m (sent n) ≡ take count (sent n)
   unfolding sent idOf
-  sent-taken = go (decLt 8 count)
-    where
-      go : Dec (8 < count) → take m (sent n) ≡ take count (sent n)
-      go (yes h) = take-all m (sent n) (omega arith) ∙ sym (take-all count (sent n) (omega arith))
-      go (no h) = ap (λ (k : ℕ). take k (sent n)) {x = m} {y = count} (omega arith)
+  sent-taken = ap (λ (k : ℕ). take k (sent n)) e ∙ sym (take-min count 8 (sent n))
 
   pub sent-put : (l v out : List ℕ) (at : ℕ) → v ≡ sent n → out ≡ overlay l at (take m v) → Puts l at count (sent n) out m
   unfolding sent idOf

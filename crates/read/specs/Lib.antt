@@ -1,2 +1,3 @@
 -- The model of the reads.
 pub mod Read
+pub mod Inside

@@ -1,17 +1,14 @@
 -- Document 01, "Commands", the reads: counts move as the 8 bytes CCHHR, KL, DL; DL = 0 is Unit Exception. Assumes nothing.
-use Prim.Native.Nat.{ℕ, _+_, _<_, _≤_, min}
-use mathlib.Core.Path.{_≡_}
+use Prim.Native.Nat.{ℕ, _+_, min}
 use mathlib.Core.Bool.{Bool, true, false}
 use mathlib.Core.List.{List, _++_}
 use lib.ListN.{length, take}
 use lib.Dec.{eqb}
 use Rattle.cells.specs.Choice.{pick}
-use Rattle.cells.specs.Bytes.{part, overlay}
-use Rattle.cells.specs.Cells.{bytesOf, marks}
+use Rattle.cells.specs.Bytes.{overlay}
+use Rattle.cells.specs.Cells.{marks}
 use Rattle.words.specs.declared.Word.{Word}
 use Rattle.areas.specs.declared.Counts.{Counts}
-use Rattle.areas.specs.Areas.{homeBytes, keyArea, dataArea}
-use Rattle.recording.specs.Recording.{countSent}
 use Rattle.commands.specs.declared.Read.{Read}
 use Rattle.commands.specs.declared.Read.the-variants.{ReadHome, ReadZero, ReadCount, ReadData, ReadKeyData, ReadAll}
 use Rattle.held.specs.declared.Stands.{Stands}
@@ -36,15 +33,6 @@ offered ReadCount n x = sent n
 offered ReadData n x = x .body
 offered ReadKeyData n x = x .key ++ x .body
 offered ReadAll n x = sent n ++ x .key ++ x .body
-
--- how many bytes those are
-unfoldable pub namedBytes : Read → Counts → ℕ
-namedBytes ReadHome n = homeBytes
-namedBytes ReadZero n = countSent + n .kl + n .dl
-namedBytes ReadCount n = countSent
-namedBytes ReadData n = n .dl
-namedBytes ReadKeyData n = n .kl + n .dl
-namedBytes ReadAll n = countSent + n .kl + n .dl
 
 -- DL = 0 on 16, 1E, 0E, 06
 unfoldable pub isEmpty : Read → Counts → Bool
@@ -80,28 +68,3 @@ readBy c s o w st t (Works j) = readGot c s o w st j (sawBy t (readWork c (j .pl
 
 unfoldable pub reads : Read → Stands → Orders → Word → List ℕ → List ℕ → ReadDone
 reads c s o w st t = readBy c s o w st t (readPlan (marks t) s o c)
-
--- what the read reads was read, and this is what the count area said
-pub record Looked (t : List ℕ) (c : Read) (place : ℕ) (n : Counts) : Type 0 where
-  pub sees : gets t (readWork c place) ≡ Sees n
-
--- ---- where the bytes lie, of the record whose count area is at c
-
-abbrev pub keyBytes : List ℕ → ℕ → Counts → List ℕ
-keyBytes t c n = bytesOf (part t (keyArea c n .first) (n .kl))
-
-abbrev pub bodyBytes : List ℕ → ℕ → Counts → List ℕ
-bodyBytes t c n = bytesOf (part t (dataArea c n .first) (n .dl))
-
--- so many bytes from a cell on lie on the track, if there are any
-pub record LieIf (t : List ℕ) (first n : ℕ) : Type 0 where
-  pub ends : 0 < n → first + n ≤ length t
-
-pub record KeyData (t : List ℕ) (c : ℕ) (n : Counts) : Type 0 where
-  pub key : LieIf t (keyArea c n .first) (n .kl)
-  pub body : LieIf t (dataArea c n .first) (n .dl)
-
--- of the bytes v, as many as the word takes were put into storage at an address, and so many they were
-pub record Puts (old : List ℕ) (at count : ℕ) (v : List ℕ) (new : List ℕ) (many : ℕ) : Type 0 where
-  pub storage : new ≡ overlay old at (take count v)
-  pub moved : many ≡ length (take count v)

@@ -23,7 +23,8 @@ ghost use Rattle.work.specs.declared.Got.the-variants.{Sees};
 ghost use Rattle.work.specs.Work.{sawBy, sent};
 ghost use Rattle.plan.specs.declared.Plan.the-variants.{Works};
 ghost use Rattle.plan.specs.Plan.{SelectedOn, readWork};
-ghost use Rattle.read.specs.Read.{Looked, LieIf, KeyData, Puts, keyBytes, bodyBytes, offered, namedBytes, isEmpty, readDone, moved, readGot, readBy, reads};
+ghost use Rattle.read.specs.Read.{offered, isEmpty, readDone, moved, readGot, readBy, reads};
+ghost use Rattle.read.specs.Inside.{Looked, LieIf, KeyData, Puts, keyBytes, bodyBytes, namedBytes};
 
 fn is_empty(c: Read, n: Counts) -> bool
     ensures { λ r. ⌜ r ≡ isEmpty c n ⌝ }

@@ -21,7 +21,8 @@ use Rattle.commands.specs.declared.Search.the-variants.{SearchHome, SearchId, S
 use Rattle.work.specs.Work.{Seen, sawBy, idOf}
 use Rattle.work.proofs.Seen.{count-lies, key-lies, record-key, home-seen, home-lies}
 use Rattle.plan.specs.Plan.{searchWork}
-use Rattle.search.specs.Search.{Sought, fieldOf, fieldLength, comparison}
+use Rattle.search.specs.Search.{fieldOf, comparison}
+use Rattle.search.specs.Inside.{Sought, fieldLength}
 
 -- the home address without its flag
 home-tail : (t : List ℕ) → drop 1 (bytesOf (part t 0 5)) ≡ bytesOf (part t 1 4)

@@ -37,7 +37,8 @@ use Rattle.work.specs.declared.Work.{Work}
 use Rattle.work.specs.declared.Got.{Got}
 use Rattle.work.specs.declared.Got.the-variants.{Sees, Fails}
 use Rattle.work.specs.Work.{Seen, gets, sawBy, idOf}
-use Rattle.search.specs.Search.{Sought, fieldOf, howOf, comparison, satisfies, found, equalOnly, wholly, searched, searchGot, searchBy, searches}
+use Rattle.search.specs.Search.{fieldOf, howOf, comparison, satisfies, found, equalOnly, wholly, searched, searchGot, searchBy, searches}
+use Rattle.search.specs.Inside.{Sought}
 
 -- ---- satisfied or not
 

@@ -1,2 +1,3 @@
 -- The model of the searches.
 pub mod Search
+pub mod Inside

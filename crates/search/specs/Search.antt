@@ -1,7 +1,6 @@
 -- Document 01, "Commands", the searches: a search compares the first m bytes, m the smaller of the command's count and the field, as
 -- unsigned numbers. Assumes nothing.
 use Prim.Native.Nat.{ℕ, _-_, min}
-use mathlib.Core.Path.{_≡_}
 use mathlib.Core.Bool.{Bool, true, false}
 use mathlib.Core.List.{List}
 use lib.ListN.{length, take, drop}
@@ -11,7 +10,6 @@ use Rattle.cells.specs.Bytes.{number, part}
 use Rattle.cells.specs.Cells.{marks}
 use Rattle.words.specs.declared.Word.{Word}
 use Rattle.areas.specs.declared.Counts.{Counts}
-use Rattle.areas.specs.Areas.{homeBytes}
 use Rattle.compare.specs.declared.Compared.{Compared}
 use Rattle.compare.specs.declared.Compared.the-variants.{Low, Equal, High}
 use Rattle.compare.specs.Compare.{compared}
@@ -44,16 +42,6 @@ unfoldable pub fieldOf : Search → Counts → Seen → List ℕ
 fieldOf SearchHome n x = drop flagBytes (x .home)
 fieldOf (SearchId h) n x = idOf (n .cc) (n .hh) (n .r)
 fieldOf (SearchKey h) n x = x .key
-
--- how many bytes it has
-unfoldable pub fieldLength : Search → Counts → ℕ
-fieldLength SearchHome n = homeBytes - flagBytes
-fieldLength (SearchId h) n = idBytes
-fieldLength (SearchKey h) n = n .kl
-
--- what the search reads was read, and this is what the count area said
-pub record Sought (t : List ℕ) (c : Search) (place : ℕ) (n : Counts) : Type 0 where
-  pub sees : gets t (searchWork c place) ≡ Sees n
 
 -- ---- the comparison
 

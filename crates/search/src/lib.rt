@@ -26,7 +26,8 @@ ghost use Rattle.work.specs.declared.Got.the-variants.{Sees};
 ghost use Rattle.work.specs.Work.{sawBy, idOf};
 ghost use Rattle.plan.specs.declared.Plan.the-variants.{Works};
 ghost use Rattle.plan.specs.Plan.{SelectedOn, searchWork};
-ghost use Rattle.search.specs.Search.{Sought, idBytes, fieldOf, fieldLength, howOf, comparison, satisfies, found, equalOnly, wholly, searched, searchGot, searchBy, searches};
+ghost use Rattle.search.specs.Search.{idBytes, fieldOf, howOf, comparison, satisfies, found, equalOnly, wholly, searched, searchGot, searchBy, searches};
+ghost use Rattle.search.specs.Inside.{Sought, fieldLength};
 
 fn how_of(c: Search) -> How
     ensures { λ r. ⌜ r ≡ howOf c ⌝ }

@@ -1,5 +1,5 @@
 -- `read::named_bytes` meets its contract: a line a read. Assumes nothing.
-use Rattle.read.specs.Read.{namedBytes}
+use Rattle.read.specs.Inside.{namedBytes}
 use borrow.Author.Needs.{needs}
 use Rattle.read.proofs.named_bytes.Statement.{statement}
 use Rattle.read.proofs.named_bytes.Tie as tie

@@ -1,5 +1,5 @@
 -- Each arm knows which it is, and gives what the model has there. Assumes nothing.
-use Rattle.search.specs.Search.{fieldLength}
+use Rattle.search.specs.Inside.{fieldLength}
 use borrow.Author.Needs.{needs}
 use Rattle.search.proofs.field_length.Statement.{statement}
 use Rattle.search.proofs.field_length.Tie as tie
