@@ -33,6 +33,7 @@ const COUNT_CELLS: usize = 11;
 const CHECK: usize = 2;
 const MARKER: u16 = 512;
 const FIRST_MARKER: usize = 28;
+const RECORD_CELLS: usize = 1 + COUNT_CELLS + DATA + CHECK;
 
 const SEEK: u8 = 0x07;
 const SEARCH_KEY: u8 = 0x29;
@@ -301,7 +302,7 @@ fn ended(sense: [u8; 2], cylinder: u16, head: u16, place: u16) -> [u8; HELD_SIZE
 fn place_after(records: usize) -> u16 {
     match records {
         0 => 0,
-        n => (FIRST_MARKER + (n - 1) * (1 + COUNT_CELLS + DATA + CHECK) + 1) as u16,
+        n => (FIRST_MARKER + (n - 1) * RECORD_CELLS + 1) as u16,
     }
 }
 
@@ -407,8 +408,7 @@ fn compare() -> Result<(), String> {
         compared += 1;
     }
     for &(what, track, record, behind, value) in DAMAGE {
-        let at =
-            track * TRACK_CELLS + FIRST_MARKER + record * (1 + COUNT_CELLS + DATA + CHECK) + behind;
+        let at = track * TRACK_CELLS + FIRST_MARKER + record * RECORD_CELLS + behind;
         let was = std::mem::replace(&mut pack[at], value);
         let walked = agreed(what, &laid, &mut pack, WORDS as u16)?;
         if walked.records != track * RECORDS + record {
