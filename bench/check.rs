@@ -1,4 +1,7 @@
 // The proved check against two plain loops in Rust: the same results, and the time of each. `bench/run --help` says more.
+mod remainder;
+
+use remainder::{next_by_bits, next_by_table};
 use std::hint::black_box;
 use std::process::ExitCode;
 use std::time::Instant;
@@ -29,46 +32,21 @@ fn proved(cells: &[u16]) -> u16 {
     unsafe { poplar_check(cells.as_ptr(), cells.len()) }
 }
 
-const fn shifted(mut r: u16) -> u16 {
-    let mut k = 0;
-    while k < 8 {
-        r = if r & 0x8000 != 0 {
-            (r << 1) ^ 0x1021
-        } else {
-            r << 1
-        };
-        k += 1;
-    }
-    r
-}
-
 // LLVM may see what this loop computes and make a table of it by itself; the same holds of the proved loop.
 #[inline(never)]
 fn by_bits(cells: &[u16]) -> u16 {
     let mut r = 0;
     for &cell in cells {
-        r = shifted(r ^ ((cell & 0xff) << 8));
+        r = next_by_bits(r, cell);
     }
     r
-}
-
-const TABLE: [u16; 256] = table();
-
-const fn table() -> [u16; 256] {
-    let mut t = [0; 256];
-    let mut b = 0;
-    while b < 256 {
-        t[b] = shifted((b as u16) << 8);
-        b += 1;
-    }
-    t
 }
 
 #[inline(never)]
 fn by_table(cells: &[u16]) -> u16 {
     let mut r: u16 = 0;
     for &cell in cells {
-        r = (r << 8) ^ TABLE[usize::from((r >> 8) ^ (cell & 0xff))];
+        r = next_by_table(r, cell);
     }
     r
 }

@@ -1,24 +1,18 @@
 // A go of 65,535 No-op command words against a plain loop in Rust: the same results, and the time of each; the stack that
 // a go uses; what a refusal costs. `bench/run --help` says more.
+mod common;
+
+use common::{median, started, storage_with, word, Lent, FIRST, FLAG_CHAIN, FULL, STATUS, WORDS};
 use poplar::{Answer, Held, Shape, HELD_SIZE, TRACK_CELLS};
-use std::arch::asm;
 use std::hint::black_box;
 use std::process::ExitCode;
-use std::thread;
 use std::time::Instant;
 
-const WORDS: usize = 65_535;
-const FIRST: usize = 256;
 const STORAGE: usize = FIRST + 8 * WORDS;
-const STATUS: std::ops::Range<usize> = 64..72;
 
 const TRACK: Shape = Shape {
     cylinders: 1,
     heads: 1,
-};
-const FULL: Shape = Shape {
-    cylinders: 203,
-    heads: 10,
 };
 
 // Odd, so that a median is a time that was measured, and a multiple of 3, so that each goes first equally often.
@@ -28,29 +22,9 @@ const WANTED: f64 = 2.0;
 // A refusal is too short to be timed alone.
 const REFUSALS: usize = 10_000;
 
-const PAINTED: usize = 64 * 1024;
-const STACK: usize = 256 * 1024;
-
 const MODULUS: u32 = 1 << 24;
-const FLAG_CHAIN: u8 = 0x40;
 const FLAG_LENGTH: u8 = 0x20;
 const NO_OP: u8 = 0x03;
-
-fn word(code: u8, address: u32, flags: u8, count: u16) -> [u8; 8] {
-    let [_, a, b, c] = address.to_be_bytes();
-    let [high, low] = count.to_be_bytes();
-    [code, a, b, c, flags, 0, high, low]
-}
-
-// Storage of so many bytes with these words from FIRST on, and the address word that names them, with key 5.
-fn storage_with(bytes: usize, words: impl Iterator<Item = [u8; 8]>) -> Vec<u8> {
-    let mut storage = vec![0xE7; bytes];
-    storage[72..76].copy_from_slice(&(0x5000_0000 + FIRST as u32).to_be_bytes());
-    for (i, word) in words.enumerate() {
-        storage[FIRST + 8 * i..][..8].copy_from_slice(&word);
-    }
-    storage
-}
 
 fn no_ops(n: usize) -> impl Iterator<Item = [u8; 8]> {
     (1..=n).map(move |i| word(NO_OP, 0, if i < n { FLAG_CHAIN } else { 0 }, 1))
@@ -177,23 +151,6 @@ fn plain(held: &mut [u8; HELD_SIZE], storage: &mut [u8], allowance: u16) -> Opti
     } else {
         Answer::Ended
     })
-}
-
-// A box with its chain started: what a go begins with.
-struct Started {
-    held: Held,
-    storage: Vec<u8>,
-}
-
-fn started(storage: Vec<u8>, cells: &mut [u16], shape: Shape) -> Result<Started, String> {
-    let mut begun = Started {
-        held: Held::fresh(),
-        storage,
-    };
-    match poplar::start(&mut begun.held, &mut begun.storage, cells, shape) {
-        Answer::NotEnded => Ok(begun),
-        answer => Err(format!("start answers {answer:?}")),
-    }
 }
 
 // What a go leaves. The rest of storage is compared too, by the caller.
@@ -329,11 +286,6 @@ fn compare() -> Result<(), String> {
     Ok(())
 }
 
-fn median(mut times: Vec<f64>) -> f64 {
-    times.sort_by(f64::total_cmp);
-    times[times.len() / 2]
-}
-
 // One go of all the words on storage that is as it was: microseconds, and what it leaves.
 fn timed(
     by_plain: bool,
@@ -441,58 +393,6 @@ fn refusals() -> Result<(), String> {
     Ok(())
 }
 
-#[inline(always)]
-fn stack_pointer() -> usize {
-    let here: usize;
-    // It only reads the register.
-    unsafe { asm!("mov {}, rsp", out(reg) here, options(nomem, nostack, preserves_flags)) };
-    here
-}
-
-// Painting ends so far under `top`: under the frame of `paint` and the 128 bytes below it that a function may use.
-const MARGIN: usize = 256;
-
-#[inline(never)]
-fn paint(top: usize, pattern: u8) {
-    assert!(top - MARGIN + 128 <= stack_pointer());
-    for at in top - PAINTED..top - MARGIN {
-        // It is of this thread's stack, which is longer, and no frame in use reaches so low.
-        unsafe { (at as *mut u8).write_volatile(pattern) };
-    }
-}
-
-// How far under `top` the lowest byte is that is painted no more, or MARGIN if all are.
-#[inline(never)]
-fn deepest(top: usize, pattern: u8) -> usize {
-    // Written by `paint`, and still of this thread's stack.
-    let kept = |at: usize| unsafe { (at as *const u8).read_volatile() } == pattern;
-    let changed = (top - PAINTED..top - MARGIN).find(|&at| !kept(at));
-    top - changed.unwrap_or(top - MARGIN)
-}
-
-// The stack that one go takes under its caller, the wrapper's with it.
-fn stack_over(pattern: u8, storage: &[u8]) -> Result<usize, String> {
-    let mut cells = vec![0; TRACK_CELLS];
-    let mut begun = started(storage.to_vec(), &mut cells, TRACK)?;
-    let top = stack_pointer();
-    paint(top, pattern);
-    let answer = poplar::go(
-        &mut begun.held,
-        &mut begun.storage,
-        &mut cells,
-        TRACK,
-        WORDS as u16,
-    );
-    let deep = deepest(top, pattern);
-    if answer != Answer::Ended {
-        return Err(format!("the stack's go answers {answer:?}"));
-    }
-    if deep == PAINTED {
-        return Err(format!("a go uses {PAINTED} bytes of stack or more"));
-    }
-    Ok(deep)
-}
-
 // Every control command once. The six bytes at 160 are a seek's address and a mask; the last ends in a Unit Check.
 fn controls() -> Vec<u8> {
     const AREA: u32 = 160;
@@ -514,35 +414,19 @@ fn controls() -> Vec<u8> {
     storage
 }
 
-// The most of two chains, each over two patterns: a byte that is stored may be the one that was painted.
+// The stack of the No-ops and of the control commands.
 fn stack() -> Result<(), String> {
-    let measured = thread::Builder::new().stack_size(STACK).spawn(|| {
-        let mut most = 0;
-        for storage in [storage_with(STORAGE, no_ops(WORDS)), controls()] {
-            for pattern in [0xA5, 0x5A] {
-                most = most.max(stack_over(pattern, &storage)?);
-            }
-        }
-        Ok(most)
+    let chains = [storage_with(STORAGE, no_ops(WORDS)), controls()];
+    let lent = chains.map(|storage| Lent {
+        storage,
+        cells: vec![0; TRACK_CELLS],
+        shape: TRACK,
     });
-    let thread = measured.map_err(|error| format!("no thread: {error}"))?;
-    let most: Result<usize, String> = thread.join().map_err(|_| "the thread of the stack ended")?;
-    println!("stack used by go: {} bytes", most?);
-    Ok(())
+    common::stack(lent.into())
 }
 
 fn main() -> ExitCode {
-    let only_compare = std::env::args().any(|word| word == "--compare");
-    let done = if only_compare {
-        compare()
-    } else {
+    common::run(compare, || {
         measure().and_then(|()| stack()).and_then(|()| refusals())
-    };
-    match done {
-        Ok(()) => ExitCode::SUCCESS,
-        Err(difference) => {
-            eprintln!("bench: {difference}");
-            ExitCode::from(1)
-        }
-    }
+    })
 }

@@ -1,5 +1,5 @@
 // Checks of the wrapper and of the library behind it: both sides of every limit, the refusals and their order, the control
-// commands with their status words, and that an allowance can be cut. Document 01 is what they are held to.
+// commands, searches and reads with their status words, and that an allowance can be cut. Document 01 is what they are held to.
 //
 // `tests` runs every group and prints how many checks each made; `tests --help` says more.
 #[path = "tests/allowance.rs"]
@@ -10,8 +10,14 @@ mod commands;
 mod lent;
 #[path = "tests/limits.rs"]
 mod limits;
+#[path = "tests/reads.rs"]
+mod reads;
+#[path = "tests/searches.rs"]
+mod searches;
 #[path = "tests/starts.rs"]
 mod starts;
+#[path = "tests/track.rs"]
+mod track;
 #[path = "tests/wrapper.rs"]
 mod wrapper;
 
@@ -58,9 +64,34 @@ const GROUPS: &[Group] = &[
     ("transfer-in-channel", commands::transfer_in_channel),
     ("program-checks", commands::program_checks),
     ("addresses-wrap", commands::addresses_wrap),
+    ("track", track::laid),
+    ("search-home", searches::search_home),
+    ("search-id", searches::search_id),
+    ("search-key", searches::search_key),
+    ("search-key-selected", searches::search_key_selected),
+    ("second-index", searches::second_index),
+    ("index-tally", searches::index_tally),
+    ("search-rows", searches::search_rows),
+    ("search-damage", searches::search_damage),
+    ("search-markers", searches::search_markers),
+    ("search-goes-on", searches::search_goes_on),
+    ("read-home", reads::read_home),
+    ("read-r0", reads::read_r0),
+    ("read-places", reads::read_places),
+    ("read-selected", reads::read_selected),
+    ("read-chains", reads::read_chains),
+    ("read-without-data", reads::read_without_data),
+    ("read-no-marker", reads::read_no_marker),
+    ("read-damage", reads::read_damage),
+    ("read-off-the-track", reads::read_off_the_track),
+    ("read-markers", reads::read_markers),
+    ("read-over-words", reads::read_over_words),
+    ("read-past-damage", reads::read_past_damage),
+    ("read-sense", reads::read_sense),
     ("loop", allowance::endless_loop),
     ("allowance", allowance::allowance),
     ("cuts", allowance::cuts),
+    ("cuts-of-work", allowance::cuts_of_work),
     ("threads", allowance::threads),
 ];
 

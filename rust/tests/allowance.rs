@@ -1,6 +1,7 @@
 // The allowance: how words are counted, a chain that never ends, cutting it into parts, and several threads.
 use crate::lent::*;
-use poplar::{Answer, Shape, TRACK_CELLS};
+use crate::track::*;
+use poplar::{Answer, Selection, Shape, TRACK_CELLS};
 
 pub fn endless_loop(tally: &mut Tally) {
     let mut world = world(&[no_op(CHAIN), tic(AT as u32)]).holding(4, &[0x80, 0x10]);
@@ -140,13 +141,65 @@ fn parts(cut: usize) -> Vec<u16> {
     parts
 }
 
-// For random chains of control commands: every way to cut seven words leaves the same, and answers the same on the way.
-pub fn cuts(tally: &mut Tally) {
+// A search or a read of the small track, or what may stand between them.
+fn random_work(dice: &mut Dice) -> [u8; 8] {
+    let slot = (AT + 8 * dice.below(WORDS)) as u32;
+    let sent = (DATA + 8 * dice.below(4)) as u32;
+    let rare = dice.below(10) == 0;
+    let flags = match dice.below(20) {
+        0 => 0,
+        1 => CHAIN,
+        _ => BOTH,
+    };
+    match dice.below(12) {
+        0..=4 => word(dice.of(&[0x39, 0x31, 0x51, 0x71, 0x29, 0x49, 0x69]), sent, flags, dice.of(&[3, 4, 5, 8])),
+        // now and then over a word of the chain
+        5..=8 if rare => word(dice.of(&[0x06, 0x0E, 0x1E]), slot, flags, 8),
+        5..=8 => word(dice.of(&[0x1A, 0x16, 0x12, 0x06, 0x0E, 0x1E]), 320, flags, dice.of(&[5, 8, 16, 18])),
+        9 => word(0x0F, 0, flags, 1),
+        10 => tic(slot),
+        _ => word(0x03, 0, flags, 1),
+    }
+}
+
+fn random_work_world(dice: &mut Dice) -> World {
+    let words: Vec<[u8; 8]> = (0..WORDS).map(|_| random_work(dice)).collect();
+    let mut world = world(&words);
+    world.shape = Shape { cylinders: 1, heads: 1 };
+    world.cells = four();
+    for k in 0..4 {
+        let bytes = match dice.below(6) {
+            0 => R0.id(),
+            1 => R1.id(),
+            2 => R2.id(),
+            3 => R1.key.to_vec(),
+            4 => R3.key.to_vec(),
+            _ => HOME[1..].to_vec(),
+        };
+        world.store(DATA + 8 * k, &bytes);
+    }
+    // One chain in four meets damage, or a marker more.
+    if dice.below(4) == 0 {
+        let cell = dice.of(&[3, 9, 20, 31, 42, 50, 57, 70, 76, 87]);
+        world.cells[cell] = dice.of(&[0, MARKER]);
+    }
+    let (before, selection) = dice.of(&[
+        (0x00, Selection::None),
+        (0x06, Selection::None),
+        (0x31, Selection::R0),
+        (0x12, marker(M1)),
+        (0x29, marker(M2)),
+    ]);
+    let place = dice.of(&[0, 1, 7, M1 + 1, M2 + 1, M3 + 1, 4096]);
+    world.going().standing(0, 0, place as u16).holding(7, &[before]).tallied(dice.of(&[0, 1])).selecting(selection)
+}
+
+// Every way to cut seven words of random chains leaves the same, and answers the same on the way.
+fn all_cuts(tally: &mut Tally, mut dice: Dice, random: fn(&mut Dice) -> World) {
     const CHAINS: usize = 300;
-    let mut dice = Dice(0x2311_2841_0360_0001);
     let (mut ended, mut held) = (0, 0);
     for chain in 0..CHAINS {
-        let begun = random_world(&mut dice);
+        let begun = random(&mut dice);
         // What n words leave, each in one go.
         let whole: Vec<(Answer, World)> = (0..=WORDS as u16)
             .map(|n| {
@@ -156,7 +209,8 @@ pub fn cuts(tally: &mut Tally) {
             .collect();
         match whole[WORDS].0 {
             Answer::Ended => ended += 1,
-            _ => held += 1,
+            Answer::NotEnded => held += 1,
+            _ => {}
         }
         for cut in 0..1 << (WORDS - 1) {
             let mut world = begun.clone();
@@ -175,8 +229,17 @@ pub fn cuts(tally: &mut Tally) {
         }
     }
     // The chains are no use if they all end, or none does.
+    tally.same("none is refused", ended + held, CHAINS);
     tally.holds("a third of the chains end", ended > CHAINS / 3);
     tally.holds("a tenth of the chains are held", held > CHAINS / 10);
+}
+
+pub fn cuts(tally: &mut Tally) {
+    all_cuts(tally, Dice(0x2311_2841_0360_0001), random_world);
+}
+
+pub fn cuts_of_work(tally: &mut Tally) {
+    all_cuts(tally, Dice(0x2311_2841_0360_0003), random_work_world);
 }
 
 // No global state: threads on memory of their own get what they get alone.

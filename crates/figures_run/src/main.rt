@@ -8,6 +8,7 @@ use pack::Shape;
 
 fn main() {
     figure_10();
+    figure_11();
     figure_12();
 }
 
@@ -67,6 +68,92 @@ fn digit(d: u16) -> u8
     requires { ⌜ d < 16 ⌝ }
 {
     if d < 10 { 48 + d as u8 } else { 55 + d as u8 }
+}
+
+// Three records, the head at place 0, and a Search ID that none of them satisfies, with a TIC back to it.
+fn figure_11() {
+    let mut cells = [0u16; 4096];
+    lay_track(&mut cells);
+    let mut storage = [0u8; 160];
+    lay_chain(&mut storage);
+    let g = Shape {
+        cylinders: 1,
+        heads: 1,
+    };
+    let started = host::start(g, Held::fresh(), &mut storage, &cells);
+    // Eight searches and the TICs between them; then a TIC, and the ninth.
+    let eighth = host::go(g, started.held, &mut storage, &mut cells, 15);
+    io::write_all(STDOUT_FILENO, b"11. The 8th Search ID in a row: ");
+    search_line(eighth.held, &storage);
+    let ninth = host::go(g, eighth.held, &mut storage, &mut cells, 2);
+    io::write_all(STDOUT_FILENO, b"11. The 9th Search ID in a row: ");
+    search_line(ninth.held, &storage);
+}
+
+// Home address, R0 with eight bytes of data, and three records of one byte.
+fn lay_track(track: &mut [u16])
+    requires { ⌜ 80 ≤ length (now track) ⌝ }
+{
+    recording::write_area(track, 0, &[], 5);
+    recording::write_count(track, 7, 0x00, &[0, 0, 0, 0, 0, 0, 0, 8]);
+    recording::write_area(track, 18, &[], 8);
+    lay_record(track, 28, 0x80, 1);
+    lay_record(track, 43, 0x00, 2);
+    lay_record(track, 58, 0x80, 3);
+}
+
+// A record of one byte, its number, from its marker on.
+fn lay_record(track: &mut [u16], marker: usize, flag: u8, number: u8)
+    requires { ⌜ marker + 15 ≤ length (now track) ⌝ }
+{
+    recording::write_count(track, marker + 1, flag, &[0, 0, 0, 0, number, 0, 0, 1]);
+    recording::write_area(track, marker + 12, &[number], 1);
+    track[marker] = 512;
+}
+
+// At 72 the address word; at 128 the Search ID, with five bytes at 144 that are in no count; at 136 the TIC.
+fn lay_chain(storage: &mut [u8])
+    requires { ⌜ 160 ≤ length (now storage) ⌝ }
+{
+    storage[75] = 128;
+    storage[128] = 0x31;
+    storage[131] = 144;
+    storage[132] = 0x40;
+    storage[135] = 5;
+    storage[136] = 0x08;
+    storage[139] = 128;
+    storage[144] = 0xFF;
+}
+
+fn search_line(held: Held, storage: &[u8]) {
+    going_text(held.channel.going);
+    let sense = held.stands.sense;
+    io::write_all(STDOUT_FILENO, b", sense ");
+    io::write_all(STDOUT_FILENO, &hex(cells::pair(sense.byte0, sense.byte1)));
+    io::write_all(STDOUT_FILENO, b", status word");
+    status_pair(storage, 64);
+    status_pair(storage, 66);
+    status_pair(storage, 68);
+    status_pair(storage, 70);
+    io::write_all(STDOUT_FILENO, b".\n");
+}
+
+fn going_text(going: bool) {
+    if going {
+        io::write_all(STDOUT_FILENO, b"goes on");
+        return;
+    }
+    io::write_all(STDOUT_FILENO, b"ends the chain");
+}
+
+// Two bytes of the status word.
+fn status_pair(storage: &[u8], at: usize)
+    requires { ⌜ at < 80 ⌝ }
+{
+    let high = cells::byte_at(storage, at);
+    let low = cells::byte_at(storage, at + 1);
+    io::write_all(STDOUT_FILENO, b" ");
+    io::write_all(STDOUT_FILENO, &hex(cells::pair(high, low)));
 }
 
 // Storage of 79 and of 80 bytes, all zero: the least storage is 80, and there a start finds a word with count 0.
