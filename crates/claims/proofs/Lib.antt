@@ -1,3 +1,4 @@
 -- What is claimed, proved.
 pub mod Figures
 pub mod Pinned
+pub mod Reading
