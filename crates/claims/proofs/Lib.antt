@@ -1,6 +1,7 @@
 -- What is claimed, proved.
 pub mod Figures
 pub mod Pinned
+pub mod Reading
 pub mod Obeyed
 pub mod Stepped
 pub mod Demand3

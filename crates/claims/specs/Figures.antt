@@ -1,4 +1,4 @@
--- Document 01, "Figures to check": the starred figures, in one table. 9, and the search of 1, come with the commands that they run.
+-- Document 01, "Figures to check": the starred figures, in one table. 9 comes with the writes.
 -- Assumes nothing.
 use Prim.Native.Nat.{ℕ, suc, _/_, _%_}
 use mathlib.Core.Path.{_≡_}
@@ -23,10 +23,11 @@ use Rattle.pack.specs.Shapes.{stands, seekTo, seekHead}
 use Rattle.compare.specs.declared.Compared.the-variants.{High}
 use Rattle.compare.specs.Compare.{compared}
 use Rattle.held.specs.declared.Stands.{Stands}
-use Rattle.held.specs.declared.Held.{Held}
-use Rattle.held.specs.declared.Selection.the-variants.{Nothing}
 use Rattle.held.specs.Held.{fresh, rested}
-use Rattle.outcome.specs.Outcome.{standing, ordered}
+use Rattle.outcome.specs.Outcome.{standing}
+use Rattle.house_check.specs.Area.{laid}
+use Rattle.sound.specs.Sound.{Sound}
+use Rattle.sound.specs.Tracks.{filled, home, count, alone}
 use Rattle.chain.specs.Step.{world}
 use Rattle.host.specs.declared.Answer.the-variants.{ChainEnded, AllowanceUsed}
 use Rattle.host.specs.Host.{Hears, beginning, starts, goes}
@@ -64,9 +65,12 @@ onePack = record { cylinders = 1; heads = 1 }
 abbrev pub zeroTrack : List ℕ
 zeroTrack = replicate trackCells 0
 
--- the status word that is left, and where the head is left
+-- the status word that is left, the next word's address, and where the head is left
 abbrev pub statusOf : Hears → List ℕ
 statusOf x = part (x .left .storage) statusAt 8
+
+abbrev pub nextOf : Hears → ℕ
+nextOf x = x .left .held .channel .next
 
 abbrev pub standsOf : Hears → Stands
 standsOf x = x .left .held .stands
@@ -75,23 +79,16 @@ standsOf x = x .left .held .stands
 abbrev pub standsAt : ℕ → ℕ → ℕ → ℕ → ℕ → Stands
 standsAt cc hh place byte0 byte1 = standing (cylinder cc) (record { 0 = hh }) place (sense byte0 byte1)
 
--- 1: at 256 Search HA, count 4, flag 40; at 272 No-op, count 1
+-- 1: at 256 Search HA, count 4, flag 40; at 272 No-op, count 1; at 128 the cylinder and head of the track's home address
 abbrev pub searchThenNoOp : List ℕ
-searchThenNoOp = storageWith (word 0x39 128 0x40 4 ++ replicate 8 0 ++ word 0x03 128 0x00 1) []
+searchThenNoOp = storageWith (word 0x39 128 0x40 4 ++ replicate 8 0 ++ word 0x03 128 0x00 1) (0 ∷ 0 ∷ 0 ∷ 0 ∷ [])
 
--- what the search leaves once it is satisfied: the word 16 on is next, the place is 1, and all 4 bytes were equal
-abbrev pub searched : Held
-searched = record {
-  stands = standsAt 0 0 1 0 0;
-  orders = ordered 0 false 0x39 true 0 Nothing;
-  channel = record { going = true; key = 0; next = 272; «after_tic» = false };
-}
-
+-- the start on a fresh box; then a go with an allowance of so many words, on what the start left
 abbrev pub started : Hears
-started = starts onePack (world fresh searchThenNoOp zeroTrack)
+started = starts onePack (world fresh searchThenNoOp alone)
 
-abbrev pub noOpAfterSearch : Hears
-noOpAfterSearch = goes onePack 1 (world searched searchThenNoOp zeroTrack)
+abbrev pub gone : ℕ → Hears
+gone n = goes onePack n (started .left)
 
 -- 4 and 5: one Set File Mask word with these flags, and its byte
 abbrev pub maskWord : ℕ → ℕ → Hears
@@ -104,18 +101,30 @@ seekWord cells cc hh =
     goes fullPack 1
     (world (beginning (rested (standsAt 100 5 7 0 0)) 0 256) (storageWith (word 0x07 128 0x40 6) (0 ∷ 0 ∷ 0 ∷ cc ∷ 0 ∷ hh ∷ [])) cells)
 
+-- 8: a track whose R0 has ID 0000000002, no key and eight bytes; one Search ID word, count 5, against 00000000 and a byte
+unfoldable pub idTwo : List ℕ
+idTwo = filled (home 0 ++ count 0 2 0 0 8 ++ laid (replicate 8 0))
+
+abbrev pub idWord : ℕ → ℕ → Hears
+idWord code byte =
+    goes onePack 1 (world (beginning fresh 0 256) (storageWith (word code 128 0x40 5) (0 ∷ 0 ∷ 0 ∷ 0 ∷ byte ∷ [])) idTwo)
+
 -- a fact of a full pack, whatever its 8,314,880 cells hold
 abbrev pub OnFullPack : (List ℕ → Type 0) → Type 0
 OnFullPack fact = (cells : List ℕ) → length cells ≡ 8314880 → fact cells
 
 pub record Figures : Type 0 where
-  -- 1. 72 holds 00000100; at 256 Search HA; at 272 No-op. Status word: 00 00 01 18 0C 00 00 01. The start before the search and the No-op
-  -- after it are here; the search itself joins when searches are built
+  -- 1. 72 holds 00000100; at 256 Search HA (count 4, flag 40) satisfied; at 272 No-op, count 1. Status word: 00 00 01 18 0C 00 00 01
+  pub one-sound : Sound alone
   pub one-start : started .answer ≡ AllowanceUsed
   pub one-start-going : started .left .held .channel .going ≡ true
-  pub one-start-next : started .left .held .channel .next ≡ 256
-  pub one-end : noOpAfterSearch .answer ≡ ChainEnded
-  pub one-status : statusOf noOpAfterSearch ≡ 0x00 ∷ 0x00 ∷ 0x01 ∷ 0x18 ∷ 0x0C ∷ 0x00 ∷ 0x00 ∷ 0x01 ∷ []
+  pub one-start-next : nextOf started ≡ 256
+  pub one-search : gone 1 .answer ≡ AllowanceUsed
+  pub one-search-next : nextOf (gone 1) ≡ 272
+  pub one-search-whole : gone 1 .left .held .orders .whole ≡ true
+  pub one-search-stands : standsOf (gone 1) ≡ standsAt 0 0 1 0 0
+  pub one-end : gone 2 .answer ≡ ChainEnded
+  pub one-status : statusOf (gone 2) ≡ 0x00 ∷ 0x00 ∷ 0x01 ∷ 0x18 ∷ 0x0C ∷ 0x00 ∷ 0x00 ∷ 0x01 ∷ []
   -- 2. R0 with DL 8 ends at cell 27; then DL 4,054 without key has room 0 and fits; 4,055 has room -1
   pub two-ends : afterZero ≡ suc 27
   pub two-room : roomLeft afterZero (needed (lengths 0 4054)) ≡ pos 0
@@ -156,3 +165,12 @@ pub record Figures : Type 0 where
   pub seven-head-only : seekHead fullPack (cylinder 202) 10 ≡ Fails BadSeek
   -- 8. ID 0000000002 on track against 0000000001: high, not equal
   pub eight : compared (number (0 ∷ 0 ∷ 0 ∷ 0 ∷ 2 ∷ [])) (number (0 ∷ 0 ∷ 0 ∷ 0 ∷ 1 ∷ [])) ≡ High
+  -- at the level of the box: satisfied is the word 16 on, 272; not satisfied the word 8 on, 264
+  pub eight-sound : Sound idTwo
+  pub eight-high : nextOf (idWord 0x51 1) ≡ 272
+  pub eight-equal : nextOf (idWord 0x31 1) ≡ 264
+  pub eight-equal-or-high : nextOf (idWord 0x71 1) ≡ 272
+  -- against 0000000003 none of the three
+  pub eight-low-high : nextOf (idWord 0x51 3) ≡ 264
+  pub eight-low-equal : nextOf (idWord 0x31 3) ≡ 264
+  pub eight-low-equal-or-high : nextOf (idWord 0x71 3) ≡ 264

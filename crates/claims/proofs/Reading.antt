@@ -1,0 +1,149 @@
+-- What the words read, and what they do with damage: each side computes. That the damage is damage: one recorded byte of an area stands in
+-- the place of another, so all other cells are as they were, and the bits that differ are that byte's. Assumes nothing.
+use Prim.Native.Nat.{ℕ, _<_}
+use native.Mathlib.Omega.{arith}
+use native.Mathlib.Decide.{ℕ-discrete}
+use mathlib.Core.Path.{_≡_, refl, sym, ap, _∙_, subst}
+use mathlib.Core.Bool.{true}
+use mathlib.Core.List.{List, List·Memᴰ·head}
+use lib.ListN.{length, getD, set, length-set}
+use lib.Seq.{getD-set-same, getD-set-other}
+use lib.Dec.{lit<}
+use Rattle.cells.specs.Bytes.{numberFrom, part, overlay}
+use Rattle.cells.specs.Cells.{isByte, cellOf, bytesOf, cellsOf, allBytes, marksFrom, marks}
+use Rattle.house_check.specs.Check as Check
+use Rattle.house_check.specs.Check.{feed, byteBits, bits, check}
+use Rattle.house_check.specs.Area as Area
+use Rattle.house_check.specs.Area.{agrees, goodCells, laid, Burst, window}
+use Rattle.house_check.proofs.Burst.{burst-parts}
+use Rattle.areas.specs.declared.Area.{Area}
+use Rattle.areas.specs.Areas.{areaCells, readable, areaBytes, rowOf, countsOf, countsAt, readCount, keyCells, keyArea, dataArea, recordCells, endBy}
+use Rattle.areas.specs.Flags.{flagOfZero, flagAfter}
+use Rattle.hunt.specs.declared.Spot.the-variants.{Marker}
+use Rattle.hunt.specs.Hunt.{scan, hunt, countFirst, spotFits, pastIndex, aheadOr, nextRecord, nextId, spacedTo, spaceRecord}
+use Rattle.mask.specs.Mask.{legal}
+use Rattle.rows.specs.Rows.{senseOf, movedBy}
+use Rattle.words.specs.Words.{begunBy, wordAt, testedCommand, testedWord, tested}
+use Rattle.words.specs.Status.{stored, statusFor}
+use Rattle.pack.specs.Shapes.{packFits}
+use Rattle.pack.specs.Tracks.{startOf, trackAt, withTrack}
+use Rattle.compare.specs.Compare.{compared}
+use Rattle.commands.specs.Commands.{readOf, writeOf, searchOf, commandOf, looks, searchesHome, readsHome, worksHome, searchSelects, readSelects, selects, searchGives, givesRecord, givesData}
+use Rattle.held.specs.Held.{freshStands, freshOrders, freshChannel, fresh, rested}
+use Rattle.outcome.specs.Outcome.{standing, sensing, placed, ordered, after, checked}
+use Rattle.work.specs.Work.{areaIf, named, namedBy, workReads, allRead, countsIn, gets, seeing, saw, idOf, sent}
+use Rattle.plan.specs.Plan.{searchWork, readWork, selectedOr, given, homeJob, onSearched, searchPlan, onRead, readPlan}
+use Rattle.search.specs.Search.{fieldOf, howOf, comparison, satisfies, found, equalOnly, wholly, searched, searchGot, searchBy, searches}
+use Rattle.read.specs.Read.{offered, isEmpty, moved, readGot, readBy, reads}
+use Rattle.control.specs.Control.{spaces, controls, puts}
+use Rattle.settle.specs.Settle.{unitStatus, endsWell, stride, wrongLength, lengthStatus, goesOn, onward, heldAfter, statusAfter, storageAfter}
+use Rattle.chain.specs.Act.{built, obeys, acts, planReads, commandReads}
+use Rattle.chain.specs.Step.{under, jumped, settled, obeyed, takes, step, run, testedReads, wordReads}
+use Rattle.chain.specs.Legal.{selectionFits}
+use Rattle.host.specs.Host.{storageFits, standsFit, ordersFit, channelFits, heldFits, guardOf, guards, beginning, firstWord, begins, starts, ran, goes}
+use Rattle.sound.specs.Sound.{Sound}
+use Rattle.sound.specs.Test.{allGaps, oneZero, recordOk, recordsOk, soundly}
+use Rattle.sound.specs.Tracks.{filled, home, count, zeroth, alone}
+use Rattle.sound.proofs.Test.{soundly-sound}
+use Rattle.sound.proofs.Tracks.{sound-tracks}
+use Rattle.damage.specs.Damage.{ownCount, ownData, In, Damaged, any, partNo, sameArea}
+use Rattle.damage.proofs.Areas.{cell-recorded}
+use Rattle.claims.specs.Reading.{stocked, oneCount, oneData, hurtCount, hurtData, Reading, touches, NotEmpty}
+
+stocked-sound : Sound stocked
+unfolding stocked filled home count allGaps oneZero recordOk recordsOk soundly flagOfZero flagAfter areaCells readable areaBytes countsOf countsAt keyCells keyArea dataArea recordCells endBy agrees goodCells Area.checked laid Check.step feed byteBits bits check bytesOf cellsOf allBytes part
+stocked-sound = soundly-sound stocked refl
+
+pub reading : Reading
+unfolding part overlay bytesOf cellsOf allBytes marksFrom marks Check.step feed byteBits bits check Area.checked agrees goodCells laid areaCells readable areaBytes countsOf countsAt readCount keyCells keyArea dataArea scan hunt countFirst pastIndex aheadOr nextRecord nextId spotFits senseOf movedBy begunBy wordAt testedCommand testedWord tested stored statusFor packFits startOf trackAt withTrack legal readOf writeOf searchOf commandOf looks worksHome searchesHome readsHome searchSelects readSelects selects searchGives givesRecord givesData freshStands freshOrders freshChannel fresh rested standing sensing placed ordered after checked areaIf named namedBy workReads allRead countsIn gets seeing saw idOf sent searchWork readWork selectedOr given homeJob onSearched searchPlan onRead readPlan numberFrom compared fieldOf howOf comparison satisfies found equalOnly wholly searched searchGot searchBy searches offered isEmpty moved readGot readBy reads spacedTo spaceRecord spaces controls puts unitStatus endsWell stride wrongLength lengthStatus goesOn onward heldAfter statusAfter storageAfter built obeys acts planReads commandReads under jumped settled obeyed takes step run testedReads wordReads selectionFits storageFits standsFit ordersFit channelFits heldFits guardOf guards beginning firstWord begins starts ran goes filled home count zeroth alone stocked hurtCount
+reading = record {
+  sound = stocked-sound;
+  sound-alone = sound-tracks alone (List·Memᴰ·head refl);
+  search-home = refl;
+  read-home = refl;
+  search-id = refl;
+  tic = refl;
+  search-id-next = refl;
+  read-data = refl;
+  read-key-data = refl;
+  search-key = refl;
+  space-record = refl;
+  read-data-zero = refl;
+  read-count = refl;
+  read-zero = refl;
+  read-zero-keyless = refl;
+  read-all = refl;
+  read-all-empty = refl;
+  no-marker = refl;
+  no-marker-sense = refl;
+  first-index = refl;
+  second-index = refl;
+  second-index-sense = refl;
+  bad-count = refl;
+}
+
+-- ---- damage
+
+-- another byte in one cell of a readable area
+one-cell : (s : ℕ) (x : Area) (t : List ℕ) (i c : ℕ) → In x i → i < length t → isByte c ≡ true → readable t x ≡ true
+    → Burst window s (bytesOf (areaCells t x)) (bytesOf (areaCells (set t i c) x)) → Damaged s x t (set t i c)
+one-cell s x t i c h l b e B = record {
+  long = length-set t i c;
+  others = λ j n. getD-set-other t i j c 0 (λ q. n (subst (In x) (sym q) h));
+  recorded = λ j m. go j m (ℕ-discrete j i);
+  bits = B;
+}
+  where
+    go : (j : ℕ) → In x j → Dec (j ≡ i) → isByte (getD (set t i c) j 0) ≡ true
+    go j m (yes q) = ap (λ (k : ℕ). isByte (getD (set t i c) k 0)) q ∙ ap isByte (getD-set-same t i c 0 l) ∙ b
+    go j m (no q) = ap isByte (getD-set-other t i j c 0 q) ∙ cell-recorded t x j e m
+
+-- cell 39 is the KL of record 1, byte 6 of its count area; cell 48 is byte 0 of its data area
+count-hurt : Damaged 48 oneCount stocked hurtCount
+unfolding hurtCount areaCells readable agrees goodCells Area.checked laid Check.step feed byteBits bits check bytesOf cellsOf allBytes part filled home count stocked
+count-hurt =
+    one-cell 48 oneCount stocked 39 (cellOf 3) (lit< tt, lit< tt) (lit< tt) refl refl
+    (burst-parts 16 48 (bytesOf (areaCells stocked oneCount)) (bytesOf (areaCells hurtCount oneCount))
+    (λ e. let z : _≡_ {A = ℕ} 2 3 = ap (λ (l : List ℕ). getD l 6 0) e in omega arith) refl refl)
+
+data-hurt : Damaged 0 oneData stocked hurtData
+unfolding hurtData areaCells readable agrees goodCells Area.checked laid Check.step feed byteBits bits check bytesOf cellsOf allBytes part filled home count stocked
+data-hurt =
+    one-cell 0 oneData stocked 48 (cellOf 0) (lit< tt, lit< tt) (lit< tt) refl refl
+    (burst-parts 16 0 (bytesOf (areaCells stocked oneData)) (bytesOf (areaCells hurtData oneData))
+    (λ e. let z : _≡_ {A = ℕ} 1 0 = ap (λ (l : List ℕ). getD l 0 0) e in omega arith) refl refl)
+
+pub not-empty : NotEmpty
+unfolding touches any partNo rowOf sameArea hurtData part overlay bytesOf cellsOf allBytes marksFrom marks Check.step feed byteBits bits check Area.checked agrees goodCells laid areaCells readable areaBytes countsOf countsAt readCount keyCells keyArea dataArea scan hunt countFirst pastIndex aheadOr nextRecord nextId spotFits senseOf movedBy begunBy wordAt testedCommand testedWord tested stored statusFor packFits startOf trackAt withTrack legal readOf writeOf searchOf commandOf looks worksHome searchesHome readsHome searchSelects readSelects selects searchGives givesRecord givesData freshStands freshOrders freshChannel fresh rested standing sensing placed ordered after checked areaIf named namedBy workReads allRead countsIn gets seeing saw idOf sent searchWork readWork selectedOr given homeJob onSearched searchPlan onRead readPlan numberFrom compared fieldOf howOf comparison satisfies found equalOnly wholly searched searchGot searchBy searches offered isEmpty moved readGot readBy reads spacedTo spaceRecord spaces controls puts unitStatus endsWell stride wrongLength lengthStatus goesOn onward heldAfter statusAfter storageAfter built obeys acts planReads commandReads under jumped settled obeyed takes step run testedReads wordReads selectionFits storageFits standsFit ordersFit channelFits heldFits guardOf guards beginning firstWord begins starts ran goes filled home count zeroth alone stocked hurtCount
+not-empty = record {
+  sound = stocked-sound;
+  count-own = ownCount (Marker 32) refl;
+  count-damaged = count-hurt;
+  data-own = ownData (Marker 32) refl;
+  data-damaged = data-hurt;
+  past-unread = refl;
+  past-end = refl;
+  past-status = refl;
+  past-bytes = refl;
+  past-cells = refl;
+  past-undamaged-unread = refl;
+  past-undamaged-end = refl;
+  past-same-held = refl;
+  past-same-storage = refl;
+  count-read = refl;
+  count-end = refl;
+  count-storage = refl;
+  count-stands = refl;
+  count-cells = refl;
+  count-undamaged-end = refl;
+  count-undamaged-status = refl;
+  count-undamaged-bytes = refl;
+  data-read = refl;
+  data-end = refl;
+  data-storage = refl;
+  data-stands = refl;
+  data-cells = refl;
+  data-undamaged-end = refl;
+  data-undamaged-status = refl;
+  data-undamaged-bytes = refl;
+}
