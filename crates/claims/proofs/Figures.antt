@@ -2,23 +2,23 @@
 use mathlib.Core.Path.{refl}
 use mathlib.Core.List.{List·Memᴰ·head}
 use Rattle.cells.specs.Bytes.{numberFrom, part, overlay}
-use Rattle.cells.specs.Cells.{bytesOf, cellsOf, allBytes, marksFrom, marks}
+use Rattle.cells.specs.Cells.{bytesOf, cellsOf, allBytes}
 use Rattle.house_check.specs.Check as Check
 use Rattle.house_check.specs.Check.{feed, byteBits, bits, check}
 use Rattle.house_check.specs.Area as Area
 use Rattle.house_check.specs.Area.{agrees, goodCells, laid}
-use Rattle.areas.specs.Areas.{areaCells, readable, areaBytes, countsOf, countsAt, readCount, keyCells, keyArea, dataArea, recordCells, endBy, needed}
+use Rattle.areas.specs.Areas.{areaCells, readable, areaBytes, countsOf, countsAt, readCount, keyCells, dataArea, recordCells, endBy, needed}
 use Rattle.areas.specs.Flags.{flagOfZero}
-use Rattle.hunt.specs.Hunt.{countFirst, spotFits, nextId}
+use Rattle.hunt.specs.Hunt.{countFirst, nextId}
 use Rattle.room.specs.Room.{roomLeft, fits}
 use Rattle.mask.specs.Mask.{legal, seeksBarred, barsSeek}
 use Rattle.rows.specs.Rows.{senseOf, movedBy}
 use Rattle.words.specs.Words.{begunBy, wordAt, testedCommand, testedWord, tested}
 use Rattle.words.specs.Status.{stored, statusFor}
 use Rattle.pack.specs.Shapes.{packFits, seekTo, seekHead}
-use Rattle.pack.specs.Tracks.{startOf, trackAt, withTrack}
+use Rattle.pack.specs.Tracks.{startOf, trackAt}
 use Rattle.compare.specs.Compare.{compared}
-use Rattle.commands.specs.Commands.{readOf, writeOf, searchOf, commandOf, searchSelects, selects}
+use Rattle.commands.specs.Commands.{readOf, writeOf, searchOf, commandOf, selects}
 use Rattle.held.specs.Held.{freshStands, freshOrders, freshChannel, fresh, rested}
 use Rattle.outcome.specs.Outcome.{standing, sensing, placed, sought, ordered, after, checked}
 use Rattle.work.specs.Work.{areaIf, named, namedBy, workReads, allRead, countsIn, gets, seeing, saw, idOf}
@@ -38,7 +38,7 @@ use Rattle.claims.specs.Figures.{idTwo, Figures}
 use Rattle.claims.specs.Limits.{Limits}
 
 pub figures : Figures
-unfolding numberFrom keyCells recordCells endBy needed roomLeft fits legal seekTo seekHead compared part overlay seeksBarred barsSeek senseOf movedBy begunBy wordAt testedCommand testedWord tested stored statusFor readOf writeOf searchOf commandOf searchSelects selects freshStands freshOrders freshChannel fresh rested standing sensing placed sought ordered after checked noOp soughtAt addressed arrived seeks masked masks controls puts unitStatus endsWell stride wrongLength lengthStatus goesOn onward heldAfter statusAfter storageAfter built obeys acts under settled obeyed takes step run selectionFits storageFits standsFit ordersFit channelFits heldFits guardOf guards beginning firstWord begins starts ran goes packFits bytesOf cellsOf allBytes marksFrom marks Check.step feed byteBits bits check Area.checked agrees goodCells laid areaCells readable areaBytes countsOf countsAt readCount keyArea dataArea flagOfZero countFirst spotFits nextId startOf trackAt withTrack areaIf named namedBy workReads allRead countsIn gets seeing saw idOf searchWork homeJob onSearched searchPlan fieldOf howOf comparison satisfies found equalOnly wholly searched searchGot searchBy searches allGaps recordOk recordsOk soundly filled home count zeroth alone idTwo
+unfolding numberFrom keyCells recordCells endBy needed roomLeft fits legal seekTo seekHead compared part overlay seeksBarred barsSeek senseOf movedBy begunBy wordAt testedCommand testedWord tested stored statusFor readOf writeOf searchOf commandOf selects freshStands freshOrders freshChannel fresh rested standing sensing placed sought ordered after checked noOp soughtAt addressed arrived seeks masked masks controls puts unitStatus endsWell stride wrongLength lengthStatus goesOn onward heldAfter statusAfter storageAfter built obeys acts under settled obeyed takes step run selectionFits storageFits standsFit ordersFit channelFits heldFits guardOf guards beginning firstWord begins starts ran goes packFits bytesOf cellsOf allBytes Check.step feed byteBits bits check Area.checked agrees goodCells laid areaCells readable areaBytes countsOf countsAt readCount dataArea flagOfZero countFirst nextId startOf trackAt areaIf named namedBy workReads allRead countsIn gets seeing saw idOf searchWork homeJob onSearched searchPlan fieldOf howOf comparison satisfies found equalOnly wholly searched searchGot searchBy searches allGaps recordOk recordsOk soundly filled home count zeroth alone idTwo
 figures = record {
   one-sound = sound-tracks alone (List·Memᴰ·head refl);
   one-start = refl;

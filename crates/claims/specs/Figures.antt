@@ -8,6 +8,7 @@ use lib.IntN.{pos, negsuc}
 use lib.ListN.{length, replicate}
 use Rattle.cells.specs.Bytes.{number, part, overlay}
 use Rattle.cells.specs.Cells.{trackCells}
+use Rattle.house_check.specs.Area.{laid}
 use Rattle.areas.specs.declared.Counts.{Counts}
 use Rattle.areas.specs.Areas.{zeroFirst, endBy, needed}
 use Rattle.room.specs.Room.{roomLeft, fits}
@@ -25,12 +26,11 @@ use Rattle.compare.specs.Compare.{compared}
 use Rattle.held.specs.declared.Stands.{Stands}
 use Rattle.held.specs.Held.{fresh, rested}
 use Rattle.outcome.specs.Outcome.{standing}
-use Rattle.house_check.specs.Area.{laid}
-use Rattle.sound.specs.Sound.{Sound}
-use Rattle.sound.specs.Tracks.{filled, home, count, alone}
 use Rattle.chain.specs.Step.{world}
 use Rattle.host.specs.declared.Answer.the-variants.{ChainEnded, AllowanceUsed}
 use Rattle.host.specs.Host.{Hears, beginning, starts, goes}
+use Rattle.sound.specs.Sound.{Sound}
+use Rattle.sound.specs.Tracks.{filled, home, count, alone}
 
 -- a count by its lengths; the rest of it makes no difference here
 abbrev pub lengths : ℕ → ℕ → Counts
