@@ -1,39 +1,28 @@
 // A chain that reads every record of a full pack against plain loops in Rust: the same results, and the time of each; the
 // stack that it uses; the slowest single words. `bench/run --help` says more.
 mod common;
+mod pack;
 mod remainder;
 
 use common::{
     median, started, storage_with, word, Lent, Started, FIRST, FLAG_CHAIN, FULL, STATUS, WORDS,
 };
-use poplar::{Answer, Held, Shape, HELD_LAYOUT, HELD_SIZE, TRACK_CELLS};
+use pack::{
+    cylinder_and_head, ended, full_pack, same, seek_address, track, Bytes, Record, Track, CHECK,
+    COUNT_CELLS, DATA, FIRST_MARKER, MARKER, MOVED, R0, RECORDS, RECORD_CELLS, SEEK_BYTES, TRACKS,
+};
+use poplar::{Answer, Held, Shape, HELD_SIZE, TRACK_CELLS};
 use remainder::{next_by_bits, next_by_table};
 use std::hint::black_box;
 use std::process::ExitCode;
 use std::time::Instant;
 
-const TRACKS: usize = 2030;
-const RECORDS: usize = 10;
-const DATA: usize = 294;
-
-// What one Read Count Key Data moves.
-const MOVED: usize = 8 + DATA;
-
 // A Seek and ten reads for each track; then the seeks' addresses; then a place for each record.
 const PER_TRACK: usize = 1 + RECORDS;
 const CHAIN: usize = TRACKS * PER_TRACK;
 const SEEKS: usize = FIRST + 8 * CHAIN;
-const SEEK_BYTES: usize = 6;
 const AREAS: usize = SEEKS + SEEK_BYTES * TRACKS;
 const STORAGE: usize = AREAS + MOVED * RECORDS * TRACKS;
-
-// Cells of a track: where R0 begins, a count area with its check, and where the first marker lies after an R0 of 8 bytes.
-const R0: usize = 7;
-const COUNT_CELLS: usize = 11;
-const CHECK: usize = 2;
-const MARKER: u16 = 512;
-const FIRST_MARKER: usize = 28;
-const RECORD_CELLS: usize = 1 + COUNT_CELLS + DATA + CHECK;
 
 const SEEK: u8 = 0x07;
 const SEARCH_KEY: u8 = 0x29;
@@ -49,100 +38,7 @@ const ROUNDS: usize = 21;
 const WORD_ROUNDS: usize = 501;
 const WANTED: f64 = 2.0;
 
-// ---- the pack
-
-// Bytes from a xorshift generator.
-struct Bytes(u64);
-
-impl Bytes {
-    fn take(&mut self, n: usize) -> Vec<u8> {
-        let next = || {
-            self.0 ^= self.0 << 13;
-            self.0 ^= self.0 >> 7;
-            self.0 ^= self.0 << 17;
-            (self.0 >> 56) as u8
-        };
-        std::iter::repeat_with(next).take(n).collect()
-    }
-}
-
-struct Record {
-    number: u8,
-    key: Vec<u8>,
-    data: Vec<u8>,
-}
-
-// A track while it is written, cell by cell.
-struct Track(Vec<u16>);
-
-impl Track {
-    // An area: its bytes and their check.
-    fn area(&mut self, bytes: &[u8]) {
-        let r = bytes.iter().fold(0, |r, &b| next_by_bits(r, b.into()));
-        let check = r.to_be_bytes();
-        let all = bytes.iter().chain(&check);
-        self.0.extend(all.map(|&b| 256 + u16::from(b)));
-    }
-
-    fn record(&mut self, flag: u8, at: [u8; 4], record: &Record) {
-        let Record { number, key, data } = record;
-        let [high, low] = (data.len() as u16).to_be_bytes();
-        let lengths = [*number, key.len() as u8, high, low];
-        self.area(&[&[flag], &at[..], &lengths].concat());
-        if !key.is_empty() {
-            self.area(key);
-        }
-        self.area(data);
-    }
-}
-
-// A soundly written track: home address, R0 of 8 bytes, and these records.
-fn track(cylinder: u16, head: u16, records: &[Record]) -> Vec<u16> {
-    let mut track = Track(Vec::new());
-    let [a, b] = cylinder.to_be_bytes();
-    let [c, d] = head.to_be_bytes();
-    track.area(&[0, a, b, c, d]);
-    let r0 = Record {
-        number: 0,
-        key: Vec::new(),
-        data: vec![0; 8],
-    };
-    track.record(0, [a, b, c, d], &r0);
-    for (i, record) in records.iter().enumerate() {
-        track.0.push(MARKER);
-        let flag = if i % 2 == 0 { 0x80 } else { 0 };
-        track.record(flag, [a, b, c, d], record);
-    }
-    assert!(track.0.len() <= TRACK_CELLS);
-    track.0.resize(TRACK_CELLS, 0);
-    track.0
-}
-
-fn full_pack() -> Vec<u16> {
-    let mut bytes = Bytes(0x2311_2841_0360_0294);
-    let mut pack = Vec::with_capacity(TRACKS * TRACK_CELLS);
-    for i in 0..TRACKS {
-        let records: Vec<Record> = (1..=RECORDS)
-            .map(|number| Record {
-                number: number as u8,
-                key: Vec::new(),
-                data: bytes.take(DATA),
-            })
-            .collect();
-        let heads = FULL.heads as usize;
-        pack.extend(track((i / heads) as u16, (i % heads) as u16, &records));
-    }
-    pack
-}
-
 // ---- the chain
-
-fn seek_address(track: usize) -> [u8; SEEK_BYTES] {
-    let heads = FULL.heads as usize;
-    let [a, b] = ((track / heads) as u16).to_be_bytes();
-    let [c, d] = ((track % heads) as u16).to_be_bytes();
-    [0, 0, a, b, c, d]
-}
 
 fn chain_word(i: usize) -> [u8; 8] {
     let (track, k) = (i / PER_TRACK, i % PER_TRACK);
@@ -287,17 +183,6 @@ const PLAIN: [Plain; 2] = [by_bits, by_table];
 
 // ---- the box against them
 
-// The held state after a chain's end.
-fn ended(sense: [u8; 2], cylinder: u16, head: u16, place: u16) -> [u8; HELD_SIZE] {
-    let mut held = [0; HELD_SIZE];
-    held[4..6].copy_from_slice(&sense);
-    held[11] = HELD_LAYOUT;
-    held[14..16].copy_from_slice(&cylinder.to_be_bytes());
-    held[16..18].copy_from_slice(&head.to_be_bytes());
-    held[18..20].copy_from_slice(&place.to_be_bytes());
-    held
-}
-
 // The place behind the marker of a track's record, or of none yet.
 fn place_after(records: usize) -> u16 {
     match records {
@@ -322,40 +207,14 @@ fn should(laid: &[u8], walked: Walked, copied: &[u8]) -> (Vec<u8>, [u8; HELD_SIZ
         None => (TRACKS - 1, RECORDS),
         Some(_) => (walked.records / RECORDS, walked.records % RECORDS),
     };
-    let (cylinder, head) = (track / FULL.heads as usize, track % FULL.heads as usize);
     let sense = walked.sense.unwrap_or_default();
-    let held = ended(sense, cylinder as u16, head as u16, place_after(on_track));
+    let held = ended(sense, cylinder_and_head(track), place_after(on_track));
     (storage, held)
 }
 
 // The words before the read of the record with this number, counted over the pack.
 fn words_with(records: usize) -> usize {
     records / RECORDS * PER_TRACK + 1 + records % RECORDS
-}
-
-fn same(
-    what: &str,
-    begun: &Started,
-    answer: Answer,
-    should: &(Vec<u8>, [u8; HELD_SIZE]),
-) -> Result<(), String> {
-    let (storage, held) = should;
-    if answer != Answer::Ended {
-        return Err(format!("{what}: the answer is {answer:?}"));
-    }
-    if begun.held.bytes() != held {
-        let is = begun.held.bytes();
-        return Err(format!("{what}: held differs: {is:02X?}, not {held:02X?}"));
-    }
-    match (0..storage.len()).find(|&i| begun.storage[i] != storage[i]) {
-        None => Ok(()),
-        Some(i) => {
-            let (is, should) = (begun.storage[i], storage[i]);
-            Err(format!(
-                "{what}: byte {i} of storage is {is:02X}, not {should:02X}"
-            ))
-        }
-    }
 }
 
 // The chain in goes of so many words, and the plain loops: all the same. How far they walked.
@@ -473,7 +332,7 @@ fn slow(
     storage[SLOW_AREA..][..ends.stored.len()].copy_from_slice(ends.stored);
     let [high, low] = ((count - ends.moved) as u16).to_be_bytes();
     storage[STATUS].copy_from_slice(&[0x50, 0, 1, 8, ends.unit, 0, high, low]);
-    let should = (storage, ended(ends.sense, 0, 0, ends.place));
+    let should = (storage, ended(ends.sense, (0, 0), ends.place));
     Ok(Slow {
         name,
         begun,

@@ -1,6 +1,7 @@
 /*
- * A host in C: it links the library, runs two short chains as document 01 has them, and says what it heard. tests/host
- * compiles and runs it. Exit status: 0 all as expected; 1 something else was heard.
+ * A host in C: it links the library, runs short chains as document 01 has them, and says what it heard: a seek that fails, its
+ * sense, a track that is formatted and read back. tests/host compiles and runs it. Exit status: 0 all as expected; 1 something
+ * else was heard.
  */
 #include "../include/poplar.h"
 
@@ -109,6 +110,77 @@ static void start_at_a_tic(void)
     hears("go 1", go(1), POPLAR_NO_CHAIN);
 }
 
+static void finds_cells(const char *what, const uint16_t *found, const uint16_t *expected, size_t len)
+{
+    size_t i;
+    for (i = 0; i < len && found[i] == expected[i]; i++)
+        ;
+    if (i == len) {
+        printf("link: %s: %u cells as expected\n", what, (unsigned)len);
+        return;
+    }
+    printf("link: %s: cell %u is %04X, expected %04X\n", what, (unsigned)i, (unsigned)found[i], (unsigned)expected[i]);
+    wrong = 1;
+}
+
+/*
+ * The last track of the pack, formatted: a mask that bars no write, a seek, home address, R0 of 8 bytes and a record with a key of
+ * 2 bytes and data of 3. In the same chain they are read back. The other tracks stay as they were.
+ */
+static void format_a_track(void)
+{
+    static const uint8_t address_word[] = {0x30, 0x00, 0x01, 0x00};
+    static const uint8_t chain[] = {
+        0x1F, 0x00, 0x01, 0x60, 0x40, 0x00, 0x00, 0x01, /* Set File Mask */
+        0x07, 0x00, 0x01, 0x62, 0x40, 0x00, 0x00, 0x06, /* Seek */
+        0x19, 0x00, 0x01, 0x68, 0x40, 0x00, 0x00, 0x05, /* Write HA */
+        0x15, 0x00, 0x01, 0x70, 0x40, 0x00, 0x00, 0x10, /* Write R0 */
+        0x1D, 0x00, 0x01, 0x80, 0x40, 0x00, 0x00, 0x0D, /* Write CKD */
+        0x1A, 0x00, 0x01, 0x90, 0x40, 0x00, 0x00, 0x05, /* Read HA */
+        0x16, 0x00, 0x01, 0xA0, 0x40, 0x00, 0x00, 0x10, /* Read R0 */
+        0x1E, 0x00, 0x01, 0xB0, 0x00, 0x00, 0x00, 0x0D  /* Read CKD */
+    };
+    static const uint8_t mask[] = {0xC0};
+    static const uint8_t seek_address[] = {0, 0, 0, 1, 0, 1};
+    static const uint8_t home[] = {0x02, 0, 1, 0, 1};
+    static const uint8_t r0[] = {0, 1, 0, 1, 0, 0, 0, 8, 0, 0, 0, 0, 0, 0, 0, 0};
+    static const uint8_t r1[] = {0, 1, 0, 1, 1, 2, 0, 3, 'K', '1', 'a', 'b', 'c'};
+    static const uint8_t status[] = {0x30, 0x00, 0x01, 0x40, 0x0C, 0x00, 0x00, 0x00};
+    /* The bytes 256 + b with their checks; 0x200 is R1's marker. R1's flag has bit 0, and bit 6 by way of R0. */
+    static const uint16_t laid[] = {
+        0x102, 0x100, 0x101, 0x100, 0x101, 0x163, 0x192, /* home address */
+        0x102, 0x100, 0x101, 0x100, 0x101, 0x100, 0x100, 0x100, 0x108, 0x155, 0x15F, /* R0: count */
+        0x100, 0x100, 0x100, 0x100, 0x100, 0x100, 0x100, 0x100, 0x100, 0x100, /* data */
+        0x200, 0x182, 0x100, 0x101, 0x100, 0x101, 0x101, 0x102, 0x100, 0x103, 0x143, 0x152, /* R1: marker, count */
+        0x14B, 0x131, 0x1F7, 0x144, /* key */
+        0x161, 0x162, 0x163, 0x19D, 0x1D6 /* data */
+    };
+    static uint16_t expected[CELLS];
+    uint16_t *track = expected + 3 * 4096;
+    size_t i;
+
+    for (i = 0; i < CELLS; i++)
+        cells[i] = expected[i] = (uint16_t)(i * 7);
+    memset(track, 0, 4096 * sizeof *track);
+    memcpy(track, laid, sizeof laid);
+    store(72, address_word, sizeof address_word);
+    store(256, chain, sizeof chain);
+    store(352, mask, sizeof mask);
+    store(354, seek_address, sizeof seek_address);
+    store(360, home, sizeof home);
+    store(368, r0, sizeof r0);
+    store(384, r1, sizeof r1);
+    hears("start of a format", start(), POPLAR_NOT_ENDED);
+    hears("go 5", go(5), POPLAR_NOT_ENDED);
+    finds_cells("the pack when it is formatted", cells, expected, CELLS);
+    hears("go 3", go(3), POPLAR_ENDED);
+    finds("status word", storage + 64, status, sizeof status);
+    finds("home address read back", storage + 400, home, sizeof home);
+    finds("R0 read back", storage + 416, r0, sizeof r0);
+    finds("R1 read back", storage + 432, r1, sizeof r1);
+    finds_cells("the pack when it is read", cells, expected, CELLS);
+}
+
 /* A length of 0 may come with a null pointer. */
 static void nothing_lent(void)
 {
@@ -132,6 +204,7 @@ int main(void)
     seek_off_the_pack();
     sense_it();
     start_at_a_tic();
+    format_a_track();
     nothing_lent();
     printf(wrong ? "link: something else was expected\n" : "link: all as expected\n");
     return wrong;

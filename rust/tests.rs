@@ -1,9 +1,11 @@
 // Checks of the wrapper and of the library behind it: both sides of every limit, the refusals and their order, the control
-// commands, searches and reads with their status words, and that an allowance can be cut. Document 01 is what they are held to.
+// commands, searches, reads and writes with their status words, and that an allowance can be cut. Document 01 is what they are held to.
 //
 // `tests` runs every group and prints how many checks each made; `tests --help` says more.
 #[path = "tests/allowance.rs"]
 mod allowance;
+#[path = "tests/appendix_a.rs"]
+mod appendix_a;
 #[path = "tests/commands.rs"]
 mod commands;
 #[path = "tests/lent.rs"]
@@ -14,12 +16,16 @@ mod limits;
 mod reads;
 #[path = "tests/searches.rs"]
 mod searches;
+#[path = "tests/sheet.rs"]
+mod sheet;
 #[path = "tests/starts.rs"]
 mod starts;
 #[path = "tests/track.rs"]
 mod track;
 #[path = "tests/wrapper.rs"]
 mod wrapper;
+#[path = "tests/writes.rs"]
+mod writes;
 
 use lent::Tally;
 use std::process::ExitCode;
@@ -88,10 +94,32 @@ const GROUPS: &[Group] = &[
     ("read-over-words", reads::read_over_words),
     ("read-past-damage", reads::read_past_damage),
     ("read-sense", reads::read_sense),
+    ("write-home", writes::write_home),
+    ("write-r0", writes::write_r0),
+    ("write-record", writes::write_record),
+    ("write-update", writes::write_update),
+    ("write-licence", writes::write_licence),
+    ("write-after", writes::write_after),
+    ("write-mask", writes::write_mask),
+    ("write-rows", writes::write_rows),
+    ("write-damage", writes::write_damage),
+    ("write-empty", writes::write_empty),
+    ("write-flags", writes::write_flags),
+    ("write-later", writes::write_later),
+    ("write-room", writes::write_room),
+    ("write-far", writes::write_far),
+    ("write-read-back", writes::write_read_back),
+    ("write-other-tracks", writes::write_other_tracks),
+    ("write-then", writes::write_then),
+    ("write-from", writes::write_from),
+    ("appendix-a-home-list", appendix_a::home_list),
+    ("appendix-a-record-list", appendix_a::record_list),
+    ("appendix-a-all-tracks", appendix_a::all_tracks),
     ("loop", allowance::endless_loop),
     ("allowance", allowance::allowance),
     ("cuts", allowance::cuts),
     ("cuts-of-work", allowance::cuts_of_work),
+    ("cuts-of-writes", allowance::cuts_of_writes),
     ("threads", allowance::threads),
 ];
 

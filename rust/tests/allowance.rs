@@ -194,6 +194,79 @@ fn random_work_world(dice: &mut Dice) -> World {
     world.going().standing(0, 0, place as u16).holding(7, &[before]).tallied(dice.of(&[0, 1])).selecting(selection)
 }
 
+// A write that the word before may license, what licenses one, or what may stand between.
+fn random_write(dice: &mut Dice, before: u8) -> [u8; 8] {
+    let slot = (AT + 8 * dice.below(WORDS)) as u32;
+    let flags = if dice.below(20) == 0 { CHAIN } else { BOTH };
+    let code = match (before, dice.below(12)) {
+        (_, 0) => dice.of(&[0x19, 0x15, 0x1D, 0x05, 0x0D]),
+        (_, 1) => return tic(slot),
+        (_, 2) => return word(dice.of(&[0x03, 0x1F]), 448, flags, 1),
+        (0x19, _) => 0x15,
+        (0x15 | 0x1D, 3..=8) => 0x1D,
+        (0x31, _) => dice.of(&[0x05, 0x0D, 0x1D]),
+        (0x29, _) => dice.of(&[0x05, 0x1D]),
+        (0x39, _) => 0x15,
+        (_, 3..=5) => return word(0x31, DATA as u32 + 8 * dice.below(3) as u32, flags, dice.of(&[5, 5, 5, 8, 4])),
+        (_, 6) => return word(0x29, DATA as u32 + 24, flags, 4),
+        (_, 7) => return word(0x39, DATA as u32 + 32, flags, 4),
+        (_, 8 | 9) => return word(dice.of(&[0x1E, 0x16, 0x12, 0x1A]), 320, flags, 18),
+        _ => 0x19,
+    };
+    match code {
+        0x15 => word(code, dice.of(&[400, 400, 416]), flags, dice.of(&[8, 12, 16])),
+        0x1D => word(code, dice.of(&[400, 400, 416, 432]), flags, dice.of(&[8, 12, 18, 3])),
+        _ => word(code, (DATA + 8 * dice.below(4)) as u32, flags, dice.of(&[1, 5, 6, 10])),
+    }
+}
+
+fn random_write_world(dice: &mut Dice) -> World {
+    let (before, selection) = dice.of(&[
+        (0x00, Selection::None),
+        (0x19, Selection::None),
+        (0x39, Selection::None),
+        (0x31, Selection::R0),
+        (0x15, Selection::R0),
+        (0x1D, marker(M1)),
+        (0x29, marker(M1)),
+    ]);
+    let mut words = Vec::new();
+    let mut last = before;
+    while words.len() < WORDS {
+        let word = random_write(dice, last);
+        last = word[0];
+        words.push(word);
+        // A search is tried again until it is satisfied.
+        if matches!(last, 0x31 | 0x29 | 0x39) {
+            words.push(tic((AT + 8 * words.len() - 8) as u32));
+        }
+    }
+    let mut world = world(&words);
+    world.shape = Shape { cylinders: 1, heads: 2 };
+    world.cells = [four(), filled_cells(TRACK_CELLS)].concat();
+    for (k, bytes) in [R0.id(), R1.id(), R2.id(), R1.key.to_vec(), HOME[1..].to_vec()].iter().enumerate() {
+        world.store(DATA + 8 * k, bytes);
+    }
+    // Records that are sent: small, empty with a key, and too long for any track.
+    world.store(400, &[0, 1, 0, 1, 9, 0, 0, 4, 1, 2, 3, 4, 0, 0, 0, 0]);
+    world.store(416, &[0, 1, 0, 1, 8, 3, 0, 0, 7, 8, 9, 4, 0, 0, 0, 0]);
+    world.store(432, &[0, 1, 0, 1, 7, 2, dice.of(&[0x00, 0x0F, 0xFF]), 0xF0]);
+    world.store(448, &[dice.of(&[0xC0, 0xC0, 0x00, 0x80])]);
+    if dice.below(4) == 0 {
+        let cell = dice.of(&[3, 9, 20, 31, 42, 50, 57, 70]);
+        world.cells[cell] = dice.of(&[0, 0x01FF]);
+    }
+    let mask = dice.of(&[0xC0, 0xC0, 0xC0, 0xC0, 0x00, 0x40]);
+    let place = dice.of(&[0, 1, 7, M1 + 1, M2 + 1, 4096]);
+    world
+        .going()
+        .standing(0, 0, place as u16)
+        .holding(2, &[mask, dice.of(&[0, 1])])
+        .holding(7, &[before, dice.of(&[1, 1, 1, 0])])
+        .tallied(dice.of(&[0, 1]))
+        .selecting(selection)
+}
+
 // Every way to cut seven words of random chains leaves the same, and answers the same on the way.
 fn all_cuts(tally: &mut Tally, mut dice: Dice, random: fn(&mut Dice) -> World) {
     const CHAINS: usize = 300;
@@ -240,6 +313,10 @@ pub fn cuts(tally: &mut Tally) {
 
 pub fn cuts_of_work(tally: &mut Tally) {
     all_cuts(tally, Dice(0x2311_2841_0360_0003), random_work_world);
+}
+
+pub fn cuts_of_writes(tally: &mut Tally) {
+    all_cuts(tally, Dice(0x2311_2841_0360_0005), random_write_world);
 }
 
 // No global state: threads on memory of their own get what they get alone.

@@ -247,13 +247,8 @@ pub fn sensing_stored<'a>(sense: [u8; 2], stored: &'a [(usize, &'a [u8])]) -> Le
     Left { sense, stored, ..NOTHING }
 }
 
-// The chain, started if none is going, ends so; every byte and cell is compared. Then no chain is going.
-pub fn ends(tally: &mut Tally, what: &str, world: &World, status: Status, left: Left) {
-    let mut after = world.clone();
-    if !world.view().going() {
-        tally.same(&format!("{what}: start"), after.start(), Answer::NotEnded);
-    }
-    tally.same(&format!("{what}: go"), after.go(100), Answer::Ended);
+// What a world becomes when its chain ends so. No cell changes.
+pub fn ended(world: &World, status: Status, left: Left) -> World {
     let (cylinder, head, place) = left.stands;
     let mut should = world.clone();
     should.held = vec![0; HELD_SIZE];
@@ -264,8 +259,23 @@ pub fn ends(tally: &mut Tally, what: &str, world: &World, status: Status, left: 
         should.store(*at, bytes);
     }
     should.store(64, &status_bytes(KEY, status));
-    tally.worlds(what, &after, &should);
+    should
+}
+
+// The chain, started if none is going, ends and leaves this; every byte and cell is compared. Then no chain is going.
+pub fn ends_as(tally: &mut Tally, what: &str, world: &World, should: &World) {
+    let mut after = world.clone();
+    if !world.view().going() {
+        tally.same(&format!("{what}: start"), after.start(), Answer::NotEnded);
+    }
+    tally.same(&format!("{what}: go"), after.go(100), Answer::Ended);
+    tally.worlds(what, &after, should);
     refused(tally, what, &after, Call::Go(1), Answer::NoChain);
+}
+
+// The chain ends so, and no cell changes.
+pub fn ends(tally: &mut Tally, what: &str, world: &World, status: Status, left: Left) {
+    ends_as(tally, what, world, &ended(world, status, left));
 }
 
 // The start is refused with 5: bytes 68 and 69 change and nothing else, and no chain is going.

@@ -107,9 +107,7 @@ pub fn four() -> Vec<u16> {
 
 // The head stands at this place of the track, in a world with this chain. Sense is that of a command long past.
 pub fn on(track: &[u16], place: usize, words: &[[u8; 8]]) -> World {
-    let mut world = world(words).standing(1, 1, place as u16).holding(4, &[0x80, 0x10]);
-    world.cells[HERE * TRACK_CELLS..][..TRACK_CELLS].copy_from_slice(track);
-    world
+    world(words).standing(1, 1, place as u16).holding(4, &[0x80, 0x10]).laying(track)
 }
 
 // The same, while the chain goes on after a command that left this record selected.
@@ -135,6 +133,12 @@ impl World {
     // One cell of the track under the head.
     pub fn recording(mut self, cell: usize, value: u16) -> World {
         self.cells[HERE * TRACK_CELLS + cell] = value;
+        self
+    }
+
+    // The track under the head.
+    pub fn laying(mut self, track: &[u16]) -> World {
+        self.cells[HERE * TRACK_CELLS..][..TRACK_CELLS].copy_from_slice(track);
         self
     }
 
@@ -177,13 +181,8 @@ pub struct Going<'a> {
     pub stored: &'a [(usize, &'a [u8])],
 }
 
-// So many words leave the chain going, so; every byte and cell is compared.
-pub fn goes_on(tally: &mut Tally, what: &str, world: &World, words: u16, left: Going) {
-    let mut after = world.clone();
-    if !world.view().going() {
-        tally.same(&format!("{what}: start"), after.start(), Answer::NotEnded);
-    }
-    tally.same(&format!("{what}: go"), after.go(words), Answer::NotEnded);
+// What a world becomes when its chain is left going, so. No cell changes.
+pub fn going_on(world: &World, left: Going) -> World {
     let mut should = world.clone();
     should.held = vec![0; HELD_SIZE];
     should = should
@@ -196,7 +195,22 @@ pub fn goes_on(tally: &mut Tally, what: &str, world: &World, words: u16, left: G
     for (at, bytes) in left.stored {
         should.store(*at, bytes);
     }
-    tally.worlds(what, &after, &should);
+    should
+}
+
+// So many words leave the chain going, and leave this; every byte and cell is compared.
+pub fn goes_on_as(tally: &mut Tally, what: &str, world: &World, words: u16, should: &World) {
+    let mut after = world.clone();
+    if !world.view().going() {
+        tally.same(&format!("{what}: start"), after.start(), Answer::NotEnded);
+    }
+    tally.same(&format!("{what}: go"), after.go(words), Answer::NotEnded);
+    tally.worlds(what, &after, should);
+}
+
+// So many words leave the chain going, so, and no cell changes.
+pub fn goes_on(tally: &mut Tally, what: &str, world: &World, words: u16, left: Going) {
+    goes_on_as(tally, what, world, words, &going_on(world, left));
 }
 
 pub fn laid(tally: &mut Tally) {

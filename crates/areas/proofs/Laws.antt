@@ -19,7 +19,7 @@ use Rattle.areas.specs.declared.Area.{Area}
 use Rattle.areas.specs.declared.Counts.{Counts}
 use Rattle.areas.specs.declared.Part.the-variants.{Data}
 use Rattle.areas.specs.declared.CountRead.the-variants.{Reads, Fails}
-use Rattle.areas.specs.Areas.{area, countCells, readCount, dataBytes, dataArea, areaCells, readable, areaBytes, countArea, countsOf, countsAt, keyCells}
+use Rattle.areas.specs.Areas.{area, homeArea, homeFlag, countCells, readCount, dataBytes, dataArea, areaCells, readable, areaBytes, countArea, countsOf, countsAt, keyCells}
 
 -- ---- readable
 
@@ -43,13 +43,21 @@ on-track t a n e h =
 
 -- ---- a count area's values
 
--- byte i of the count area at c
-pub count-byte : (t : List ℕ) (c i : ℕ) → i < 9 → getD (areaBytes t (countArea c)) i 0 ≡ byteOf (getD t (c + i) 0)
+-- byte i of an area
+pub area-byte : (t : List ℕ) (a : Area) (i : ℕ) → i < a .bytes → getD (areaBytes t a) i 0 ≡ byteOf (getD t (a .first + i) 0)
 unfolding areaBytes areaCells part
-count-byte t c i h =
-    getD-take 9 (bytesOf (take 11 (drop c t))) i 0 h
-    ∙ getD-bytesOf (take 11 (drop c t)) i
-    ∙ ap byteOf (getD-take 11 (drop c t) i 0 (omega arith) ∙ getD-drop c t i 0)
+area-byte t a i h =
+    getD-take (a .bytes) (bytesOf (take (a .bytes + 2) (drop (a .first) t))) i 0 h
+    ∙ getD-bytesOf (take (a .bytes + 2) (drop (a .first) t)) i
+    ∙ ap byteOf (getD-take (a .bytes + 2) (drop (a .first) t) i 0 (omega arith) ∙ getD-drop (a .first) t i 0)
+
+-- of the count area at c
+pub count-byte : (t : List ℕ) (c i : ℕ) → i < 9 → getD (areaBytes t (countArea c)) i 0 ≡ byteOf (getD t (c + i) 0)
+count-byte t c i h = area-byte t (countArea c) i h
+
+-- the home address's flag
+pub home-flag : (t : List ℕ) → homeFlag t ≡ byteOf (getD t 0 0)
+home-flag t = area-byte t homeArea 0 (lit< tt)
 
 -- the count area's values are those of its cells
 module _ (t : List ℕ) (c : ℕ) where

@@ -50,6 +50,10 @@ homeBytes = 5
 abbrev pub homeArea : Area
 homeArea = area Home 0 homeBytes
 
+-- its flag byte
+abbrev pub homeFlag : List ℕ → ℕ
+homeFlag t = getD (areaBytes t homeArea) 0 0
+
 -- R0's count area begins right after the home address
 abbrev pub zeroFirst : ℕ
 zeroFirst = homeBytes + checkBytes

@@ -21,7 +21,7 @@ use Rattle.pack.specs.Tracks.{startOf, trackAt, withTrack}
 use Rattle.pack.proofs.Laws.{lent-is, lent-back}
 use Rattle.commands.specs.declared.Control.{Control}
 use Rattle.commands.specs.declared.Command.{Command}
-use Rattle.commands.specs.declared.Command.the-variants.{Controls, Searches, Reads}
+use Rattle.commands.specs.declared.Command.the-variants.{Controls, Searches, Reads, Writes, Unknown}
 use Rattle.commands.specs.Commands.{commandOf}
 use Rattle.held.specs.declared.Stands.{Stands}
 use Rattle.held.specs.declared.Orders.{Orders}
@@ -29,15 +29,17 @@ use Rattle.held.specs.declared.Held.{Held}
 use Rattle.held.specs.Held.{rested}
 use Rattle.commands.specs.declared.Search.{Search}
 use Rattle.commands.specs.declared.Read.{Read}
+use Rattle.commands.specs.declared.Write.{Write}
 use Rattle.plan.specs.Plan.{SelectedOn}
 use Rattle.search.specs.Search.{searches}
 use Rattle.read.specs.Read.{ReadDone, readDone, reads}
+use Rattle.write.specs.Write.{WriteDone, writeDone, writes}
 use Rattle.outcome.specs.declared.Done.{Done}
 use Rattle.outcome.specs.Outcome.{checked}
 use Rattle.control.specs.Control.{controls, puts}
 use Rattle.words.specs.Words.{Reaches}
 use Rattle.settle.specs.Settle.{heldAfter, storageAfter}
-use Rattle.chain.specs.Act.{Acted, acted, built, unknown, obeys, acts}
+use Rattle.chain.specs.Act.{Acted, acted, unknown, obeys, acts}
 use Rattle.chain.specs.Legal.{Legal}
 use Rattle.chain.proofs.Legal.{selected-on}
 use Rattle.chain.specs.Step.{World, world, under, stops, settled, obeyed, takes, step}
@@ -65,15 +67,19 @@ module _ (g : Shape) (c : Command) (s : Stands) (o : Orders) (w : Word) (st t : 
   read-obeyed k d u e p =
       acted-eq (ap (λ (x : ReadDone). x .done) p) (ap (λ (x : ReadDone). x .storage) p) refl ∙ ap (λ (x : Command). obeys g x s o w st t) (sym e)
 
-  -- a command that is not built, or no command
-  pub not-obeyed : (x : Command) (d : Done) → obeys g x s o w st t ≡ unknown s o w st t → c ≡ x → d ≡ checked s o (w .count) UnknownCode
-      → acted d st t ≡ obeys g c s o w st t
-  unfolding unknown
-  not-obeyed x d u e p = acted-eq p refl refl ∙ sym u ∙ ap (λ (y : Command). obeys g y s o w st t) (sym e)
+  pub write-obeyed : (k : Write) (d : Done) (t′ : List ℕ) → c ≡ Writes k → writeDone d t′ ≡ writes k s o w st t → acted d st t′ ≡ obeys g c s o w st t
+  unfolding obeys
+  write-obeyed k d t′ e p =
+      acted-eq (ap (λ (x : WriteDone). x .done) p) refl (ap (λ (x : WriteDone). x .track) p) ∙ ap (λ (x : Command). obeys g x s o w st t) (sym e)
 
-  pub by-code : (x : Command) (a : Acted) → x ≡ commandOf (w .code) → c ≡ built x → a ≡ obeys g c s o w st t → a ≡ acts g s o w st t
+  -- no command
+  pub not-obeyed : (d : Done) → c ≡ Unknown → d ≡ checked s o (w .count) UnknownCode → acted d st t ≡ obeys g c s o w st t
+  unfolding obeys unknown
+  not-obeyed d e p = acted-eq p refl refl ∙ ap (λ (x : Command). obeys g x s o w st t) (sym e)
+
+  pub by-code : (a : Acted) → c ≡ commandOf (w .code) → a ≡ obeys g c s o w st t → a ≡ acts g s o w st t
   unfolding acts
-  by-code x a e p q = q ∙ ap (λ (y : Command). obeys g y s o w st t) (p ∙ ap built e)
+  by-code a e q = q ∙ ap (λ (x : Command). obeys g x s o w st t) e
 
 -- ---- a command on the track under the head
 

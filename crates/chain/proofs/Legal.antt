@@ -1,4 +1,5 @@
--- A step leaves a legal world legal: no command moves the head off the pack, and storage, track and pack keep their sizes.
+-- A step leaves a legal world legal: no command moves the head off the pack, storage, track and pack keep their sizes,
+-- and what is selected is a record of the track that is left.
 -- A line a command. Assumes nothing.
 use Prim.Native.Nat.{ℕ, _+_, _≤_}
 use mathlib.Core.Path.{_≡_, refl, sym, ap, _∙_, subst}
@@ -51,7 +52,6 @@ use Rattle.outcome.specs.Outcome.{done, standing, sensing, placed, sought, orde
 use Rattle.control.specs.Control.{afterControl, noOp, senses, senseBytes, soughtAt, addressed, arrived, seeks, masked, masks, spaces, controls, puts}
 use Rattle.commands.specs.declared.Search.{Search}
 use Rattle.commands.specs.declared.Read.{Read}
-use Rattle.work.specs.declared.Work.{Work}
 use Rattle.work.specs.declared.Got.{Got}
 use Rattle.work.specs.declared.Got.the-variants.{Sees, Fails}
 use Rattle.work.specs.Work.{Seen}
@@ -62,8 +62,12 @@ use Rattle.plan.specs.Plan.{mostTally, SelectedOn, searchWork, readWork}
 use Rattle.plan.proofs.Records.{Leaves, Planned, search-planned, read-planned}
 use Rattle.search.specs.Search.{searched, searchGot, searchBy, searches}
 use Rattle.read.specs.Read.{ReadDone, offered, moved, readGot, readBy, reads}
+use Rattle.write.specs.declared.Laying.{Laying}
+use Rattle.write.specs.declared.Laying.the-variants.{Stops, Lays}
+use Rattle.write.specs.Write.{wrote, writes}
+use Rattle.write.proofs.Kept.{LaysOn, writes-kept, writes-long}
 use Rattle.settle.specs.Settle.{goesOn, onward, stride, statusAfter, heldAfter, storageAfter}
-use Rattle.chain.specs.Act.{Acted, built, unknown, obeys, acts}
+use Rattle.chain.specs.Act.{Acted, unknown, obeys, acts}
 use Rattle.chain.specs.Step.{World, world, under, stops, jumped, settled, obeyed, takes, step}
 use Rattle.chain.specs.Legal.{selectionFits, Ordered, Channeled, Standing, Legal}
 
@@ -162,18 +166,25 @@ leaves-ordered m o code whole tally Nothing b q l h k = record { mask = l; tally
 leaves-ordered m o code whole tally (On spot) b q l h k = record { mask = l; tally = h; selected = k }
 
 module _ (g : Shape) (s : Stands) (ok : Standing g s) (o : Orders) (t : List ℕ) (fit : Ordered (marks t) o) (w : Word) (b : Bool) (code : selects (commandOf (w .code)) ≡ b) where
-  job-left : (work : ℕ → Work) (j : Job) → Planned (marks t) b work (Works j) → (e : Ending) (moved wanted : ℕ) (whole : Bool)
-      → Left g s (done e moved wanted true (placed s (j .place)) (after o (w .code) whole (j .tally) (j .selection))) t
+  -- work done, on the track that is left
+  job-left : (t′ : List ℕ) (j : Job) → j .place ≤ trackCells → j .tally ≤ mostTally → Leaves (marks t′) b (j .selection) → (e : Ending) (moved wanted : ℕ) (whole : Bool)
+      → Left g s (done e moved wanted true (placed s (j .place)) (after o (w .code) whole (j .tally) (j .selection))) t′
   unfolding placed standing
-  job-left work j p e moved wanted whole = record {
-    standing = record { on = ok .on; place = p .0 };
-    chosen = here refl refl (leaves-ordered (marks t) o (w .code) whole (j .tally) (j .selection) b code (fit .mask) (p .1) (p .2));
+  job-left t′ j p q k e moved wanted whole = record {
+    standing = record { on = ok .on; place = p };
+    chosen = here refl refl (leaves-ordered (marks t′) o (w .code) whole (j .tally) (j .selection) b code (fit .mask) q k);
   }
+
+  -- what a write leaves
+  pub wrote-left : (t′ : List ℕ) (x : Laying) → LaysOn b t t′ x → Left g s (wrote s o w x) t′
+  unfolding wrote moved
+  wrote-left t′ (Stops row) k = subst (Left g s (checked s o (w .count) row)) (sym k) (checked-left g s ok o t fit w row)
+  wrote-left t′ (Lays j n empty) k = job-left t′ j (k .0) (k .1) (k .2) _ _ _ _
 
   module _ (st : List ℕ) where
     search-got-left : (c : Search) (j : Job) (x : Seen) (y : Got) → Planned (marks t) b (searchWork c) (Works j) → Left g s (searchGot c s o w st j x y) t
     unfolding searchGot searched
-    search-got-left c j x (Sees n) p = job-left (searchWork c) j p _ _ _ _
+    search-got-left c j x (Sees n) p = job-left t j (p .0) (p .1) (p .2) _ _ _ _
     search-got-left c j x (Fails row) p = checked-left g s ok o t fit w row
 
     pub search-left : (c : Search) (p : Plan) → Planned (marks t) b (searchWork c) p → Left g s (searchBy c s o w st t p) t
@@ -189,7 +200,7 @@ module _ (g : Shape) (s : Stands) (ok : Standing g s) (o : Orders) (t : List ℕ
       read-got-left : (c : Read) (j : Job) (x : Seen) (y : Got) → Planned (marks t) b (readWork c) (Works j) → ReadLeft (readGot c s o w st j x y)
       unfolding readGot moved ReadLeft
       read-got-left c j x (Sees n) p =
-          (job-left (readWork c) j p _ _ _ _, length-overlay st (w .address) _ (omega (arith, length-take (w .count) (offered c n x), r .area)))
+          (job-left t j (p .0) (p .1) (p .2) _ _ _ _, length-overlay st (w .address) _ (omega (arith, length-take (w .count) (offered c n x), r .area)))
       read-got-left c j x (Fails row) p = (checked-left g s ok o t fit w row, refl)
 
       pub read-left : (c : Read) (p : Plan) → Planned (marks t) b (readWork c) p
@@ -214,8 +225,8 @@ module _ (g : Shape) (s : Stands) (ok : Standing g s) (o : Orders) (t : List ℕ
   unknown-fine = record { left = checked-left g s ok o t fit w UnknownCode; storage = refl; track = refl }
 
   -- by the command
-  by-command : (c : Command) → commandOf (w .code) ≡ c → Fine g s (length st) (length t) (obeys g (built c) s o w st t)
-  unfolding obeys built searches reads selects
+  by-command : (c : Command) → commandOf (w .code) ≡ c → Fine g s (length st) (length t) (obeys g c s o w st t)
+  unfolding obeys searches reads selects
   by-command (Controls c) e = record {
     left = controls-left g s ok o t fit w (ap selects e ∙ control-selects c) wh c st;
     storage = length-overlay st (w .address) (puts c s w) (omega (arith, puts-short c s w, r .area));
@@ -229,7 +240,15 @@ module _ (g : Shape) (s : Stands) (ok : Standing g s) (o : Orders) (t : List ℕ
   by-command (Reads c) e =
       let l = read-left g s ok o t fit w _ (ap selects e) st r c _ (read-planned t wh s o (selected-on (marks t) o fit) c) in
       record { left = l .0; storage = l .1; track = refl }
-  by-command (Writes c) e = unknown-fine
+  by-command (Writes c) e =
+      let sel = selected-on (marks t) o fit in
+      let k = writes-kept c s o w t wh st sel in
+      record {
+        left = subst (λ (d : Done). Left g s d (writes c s o w st t .track)) (sym (k .done))
+            (wrote-left g s ok o t fit w _ (ap selects e) _ (k .laying) (k .lays));
+        storage = refl;
+        track = writes-long c s o w t wh st sel;
+      }
   by-command Unknown e = unknown-fine
 
   pub acts-fine : Fine g s (length st) (length t) (acts g s o w st t)

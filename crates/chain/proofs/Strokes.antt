@@ -5,7 +5,6 @@ use mathlib.Core.Path.{_≡_, refl, sym, ap, _∙_, subst}
 use mathlib.Core.Bool.{Bool, true, false, false≢true}
 use mathlib.Core.List.{List}
 use native.Mathlib.Omega.{arith}
-use lib.ListN.{length}
 use lib.Dec.{eqb}
 use borrow.Author.Tests.{eqb-true, eq-eqb, ne-eqb}
 use Rattle.cells.specs.Choice.{pick, both}
@@ -26,7 +25,7 @@ use Rattle.held.specs.declared.Selection.the-variants.{Nothing}
 use Rattle.outcome.specs.Outcome.{after, ordered}
 use Rattle.control.specs.Control.{noOp, controls, puts}
 use Rattle.settle.specs.Settle.{endsWell, stride, wrongLength, goesOn, onward, heldAfter, storageAfter}
-use Rattle.chain.specs.Act.{acted, built, obeys, acts}
+use Rattle.chain.specs.Act.{acted, obeys, acts}
 use Rattle.chain.specs.Step.{World, world, under, settled, obeyed, takes, step, run}
 use Rattle.chain.specs.Legal.{Legal}
 use Rattle.chain.specs.Stroke.{passes, passing, passed, Passed}
@@ -65,9 +64,9 @@ module _ (g : Shape) (w : World) (L : Legal g w) where
 
   module _ (d : Word) (code : d .code ≡ 0x03) (on : chains d ≡ true) where
     acts-no-op : (st t : List ℕ) → acts g (w .held .stands) (w .held .orders) d st t ≡ acted (noOp (w .held .stands) (w .held .orders) d) st t
-    unfolding acts obeys built commandOf controls puts
+    unfolding acts obeys commandOf controls puts
     acts-no-op st t =
-        ap (λ (c : ℕ). obeys g (built (commandOf c)) (w .held .stands) (w .held .orders) d st t) code
+        ap (λ (c : ℕ). obeys g (commandOf c) (w .held .stands) (w .held .orders) d st t) code
         ∙ ap (λ (x : List ℕ). acted (noOp (w .held .stands) (w .held .orders) d) x t) (overlay-none st (d .address))
 
     goes-on : goesOn d (noOp (w .held .stands) (w .held .orders) d) ≡ true

@@ -1,6 +1,6 @@
 -- One command word, and an allowance of them. Assumes nothing.
 use Prim.Native.Nat.{ℕ, zero, suc}
-use mathlib.Core.Bool.{true}
+use mathlib.Core.Bool.{Bool, true, false}
 use mathlib.Core.List.{List, []}
 use Rattle.cells.specs.Choice.{pick}
 use Rattle.words.specs.declared.Word.{Word}
@@ -14,8 +14,10 @@ use Rattle.pack.specs.Tracks.{startOf, trackAt, withTrack}
 use Rattle.held.specs.declared.Held.{Held}
 use Rattle.held.specs.Held.{rested}
 use Rattle.areas.specs.declared.Area.{Area}
+use Rattle.commands.specs.declared.Command.{Command}
+use Rattle.commands.specs.declared.Command.the-variants.{Controls, Searches, Reads, Writes, Unknown}
 use Rattle.commands.specs.Commands.{commandOf}
-use Rattle.chain.specs.Act.{Acted, built, acts, commandReads}
+use Rattle.chain.specs.Act.{Acted, acts, commandReads}
 use Rattle.settle.specs.Settle.{heldAfter, storageAfter}
 
 -- all that a call may change
@@ -71,9 +73,23 @@ run g (suc n) w = pick (w .held .channel .going) (run g n (step g w)) w
 
 unfoldable pub testedReads : Shape → World → Tested → List Area
 testedReads g w (Obey d) =
-    commandReads (built (commandOf (d .code))) (w .held .stands) (w .held .orders) (trackAt (w .cells) (under g (w .held)))
+    commandReads (commandOf (d .code)) (w .held .stands) (w .held .orders) (trackAt (w .cells) (under g (w .held)))
 testedReads g w (Jump a) = []
 testedReads g w (Bad cause) = []
 
 unfoldable pub wordReads : Shape → World → List Area
 wordReads g w = testedReads g w (tested (w .storage) (w .held .channel .next) (w .held .channel .«after_tic»))
+
+-- ---- whether a word is 19, 15, 1D, 05 or 0D
+
+unfoldable pub isWrite : Command → Bool
+isWrite (Controls c) = false
+isWrite (Searches c) = false
+isWrite (Reads c) = false
+isWrite (Writes c) = true
+isWrite Unknown = false
+
+unfoldable pub testedWrites : Tested → Bool
+testedWrites (Obey d) = isWrite (commandOf (d .code))
+testedWrites (Jump a) = false
+testedWrites (Bad cause) = false

@@ -23,23 +23,10 @@ ghost use mathlib.Core.Bool.{true, false};
 ghost use Rattle.words.specs.Words.{Reaches, tested};
 ghost use Rattle.control.specs.Control.{controls, puts};
 ghost use Rattle.plan.specs.Plan.{SelectedOn};
-ghost use Rattle.chain.specs.Act.{acted, built, obeys, acts};
+ghost use Rattle.chain.specs.Act.{acted, obeys, acts};
 ghost use Rattle.chain.specs.Step.{world, jumped, stops, obeyed, step, run};
 ghost use Rattle.chain.specs.Legal.{Legal};
 ghost use Rattle.chain.specs.Stroke.{passes, passing, passed, Passed};
-
-// Which commands are built.
-fn built(c: Command) -> Command
-    ensures { λ r. ⌜ r ≡ built c ⌝ }
-{
-    match c {
-        Command::Controls(k) => Command::Controls(k),
-        Command::Searches(k) => Command::Searches(k),
-        Command::Reads(k) => Command::Reads(k),
-        Command::Writes(_) => Command::Unknown,
-        Command::Unknown => Command::Unknown,
-    }
-}
 
 fn controlled(
     g: Shape,
@@ -75,7 +62,7 @@ fn obey(
         Command::Controls(k) => controlled(g, k, s, o, w, storage, track),
         Command::Searches(k) => search::search(k, s, o, w, storage, track),
         Command::Reads(k) => read::read(k, s, o, w, storage, track),
-        Command::Writes(_) => outcome::checked(s, o, w.count, Row::UnknownCode),
+        Command::Writes(k) => write::write(k, s, o, w, storage, track),
         Command::Unknown => outcome::checked(s, o, w.count, Row::UnknownCode),
     }
 }
@@ -84,7 +71,7 @@ fn act(g: Shape, s: Stands, o: Orders, w: Word, storage: &mut [u8], track: &mut 
     requires { ⌜ Reaches (now storage) w × Whole (now track) × SelectedOn (marks (now track)) (o .selection) ⌝ }
     ensures { λ r. ⌜ acted r (now (storage .exit)) (now (track .exit)) ≡ acts g s o w (now (storage .entry)) (now (track .entry)) ⌝ }
 {
-    let c = built(commands::command_of(w.code));
+    let c = commands::command_of(w.code);
     obey(g, c, s, o, w, storage, track)
 }
 

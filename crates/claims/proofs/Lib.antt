@@ -1,5 +1,6 @@
 -- What is claimed, proved.
 pub mod Figures
+pub mod Lost
 pub mod Pinned
 pub mod Reading
 pub mod Obeyed

@@ -28,11 +28,11 @@ use Rattle.plan.proofs.Records.{WorkOn, Planned, search-planned, read-planned}
 use Rattle.control.specs.Control.{controls}
 use Rattle.search.specs.Search.{searchGot, searchBy, searches}
 use Rattle.read.specs.Read.{ReadDone, readDone, readGot, readBy, reads}
-use Rattle.chain.specs.Act.{acted, built, unknown, obeys, planReads, commandReads}
+use Rattle.chain.specs.Act.{acted, unknown, obeys, planReads, commandReads}
 use Rattle.damage.specs.Damage.{any}
 use Rattle.damage.proofs.Hurts.{Hurt}
 use Rattle.damage.proofs.Works.{OwnAll, work-own-home, work-own, works-kept, works-broken}
-use Rattle.claims.specs.Demand3.{isWrite}
+use Rattle.chain.specs.Step.{isWrite}
 
 -- ---- what is worked on is the track's own
 
@@ -80,9 +80,9 @@ module _ (hit : Area → Bool) (t t′ : List ℕ) (H : Hurt hit t t′) (s : St
   -- ---- any command that is no write
 
   module _ (g : Shape) (wh : Hunt.Whole t) (sel : SelectedOn (marks t) (o .selection)) where
-    pub obeys-kept : (k : Command) → isWrite k ≡ false → any hit (commandReads (built k) s o t) ≡ false
-        → (obeys g (built k) s o w st t′ .done ≡ obeys g (built k) s o w st t .done) × (obeys g (built k) s o w st t′ .storage ≡ obeys g (built k) s o w st t .storage)
-    unfolding obeys built unknown commandReads searches reads isWrite
+    pub obeys-kept : (k : Command) → isWrite k ≡ false → any hit (commandReads k s o t) ≡ false
+        → (obeys g k s o w st t′ .done ≡ obeys g k s o w st t .done) × (obeys g k s o w st t′ .storage ≡ obeys g k s o w st t .storage)
+    unfolding obeys unknown commandReads searches reads isWrite
     obeys-kept (Controls c) q e = (ap (controls g c s o w st) (H .marked), refl)
     obeys-kept (Searches c) q e =
         (ap (λ (m : List Bool). searchBy c s o w st t′ (searchPlan m s o c)) (H .marked) ∙ search-kept c _ _ (search-planned t wh s o sel c) e, refl)
@@ -92,9 +92,9 @@ module _ (hit : Area → Bool) (t t′ : List ℕ) (H : Hurt hit t t′) (s : St
     obeys-kept (Writes c) q e = absurd (true≢false q)
     obeys-kept Unknown q e = (refl, refl)
 
-    pub obeys-broken : (k : Command) → isWrite k ≡ false → any hit (commandReads (built k) s o t) ≡ true
-        → (a : Area) × (hit a ≡ true) × (obeys g (built k) s o w st t′ ≡ acted (checked s o (w .count) (rowOf (a .part))) st t′)
-    unfolding obeys built unknown commandReads searches reads isWrite any
+    pub obeys-broken : (k : Command) → isWrite k ≡ false → any hit (commandReads k s o t) ≡ true
+        → (a : Area) × (hit a ≡ true) × (obeys g k s o w st t′ ≡ acted (checked s o (w .count) (rowOf (a .part))) st t′)
+    unfolding obeys unknown commandReads searches reads isWrite any
     obeys-broken (Controls c) q e = absurd (false≢true e)
     obeys-broken (Searches c) q e =
         let r = search-broken c _ _ (search-planned t wh s o sel c) e in
@@ -108,8 +108,8 @@ module _ (hit : Area → Bool) (t t′ : List ℕ) (H : Hurt hit t t′) (s : St
     obeys-broken Unknown q e = absurd (false≢true e)
 
 -- a command that is no write leaves the track as it was
-pub obeys-still : (g : Shape) (k : Command) (s : Stands) (o : Orders) (w : Word) (st t : List ℕ) → isWrite k ≡ false → obeys g (built k) s o w st t .track ≡ t
-unfolding obeys built unknown isWrite
+pub obeys-still : (g : Shape) (k : Command) (s : Stands) (o : Orders) (w : Word) (st t : List ℕ) → isWrite k ≡ false → obeys g k s o w st t .track ≡ t
+unfolding obeys unknown isWrite
 obeys-still g (Controls c) s o w st t q = refl
 obeys-still g (Searches c) s o w st t q = refl
 obeys-still g (Reads c) s o w st t q = refl

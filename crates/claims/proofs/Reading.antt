@@ -37,7 +37,7 @@ use Rattle.search.specs.Search.{fieldOf, howOf, comparison, satisfies, found, s
 use Rattle.read.specs.Read.{offered, isEmpty, moved, readGot, readBy, reads}
 use Rattle.control.specs.Control.{spaces, controls, puts}
 use Rattle.settle.specs.Settle.{unitStatus, endsWell, stride, wrongLength, lengthStatus, goesOn, onward, heldAfter, statusAfter, storageAfter}
-use Rattle.chain.specs.Act.{built, obeys, acts, planReads, commandReads}
+use Rattle.chain.specs.Act.{obeys, acts, planReads, commandReads}
 use Rattle.chain.specs.Step.{under, jumped, settled, obeyed, takes, step, run, testedReads, wordReads}
 use Rattle.chain.specs.Legal.{selectionFits}
 use Rattle.host.specs.Host.{storageFits, standsFit, ordersFit, channelFits, heldFits, guardOf, guards, beginning, firstWord, begins, starts, ran, goes}
@@ -55,7 +55,7 @@ unfolding stocked filled home count allGaps oneZero recordOk recordsOk soundly f
 stocked-sound = soundly-sound stocked refl
 
 pub reading : Reading
-unfolding part overlay bytesOf cellsOf allBytes marksFrom marks Check.step feed byteBits bits check Area.checked agrees goodCells laid areaCells readable areaBytes countsOf countsAt readCount keyCells keyArea dataArea scan hunt countFirst pastIndex aheadOr nextRecord nextId senseOf begunBy wordAt testedCommand testedWord tested packFits startOf trackAt withTrack legal readOf writeOf searchOf commandOf searchSelects selects searchGives givesRecord givesData freshStands freshOrders freshChannel fresh rested standing sensing placed ordered after checked areaIf named namedBy workReads allRead countsIn gets idOf searchWork readWork selectedOr given homeJob onSearched searchPlan onRead readPlan numberFrom compared fieldOf howOf comparison satisfies found searched searchGot searchBy searches endsWell stride wrongLength goesOn onward heldAfter storageAfter built obeys acts planReads commandReads under jumped settled obeyed takes step run testedReads wordReads selectionFits storageFits standsFit ordersFit channelFits heldFits guardOf guards beginning firstWord begins starts ran goes filled home count zeroth alone stocked hurtCount
+unfolding part overlay bytesOf cellsOf allBytes marksFrom marks Check.step feed byteBits bits check Area.checked agrees goodCells laid areaCells readable areaBytes countsOf countsAt readCount keyCells keyArea dataArea scan hunt countFirst pastIndex aheadOr nextRecord nextId senseOf begunBy wordAt testedCommand testedWord tested packFits startOf trackAt withTrack legal readOf writeOf searchOf commandOf searchSelects selects searchGives givesRecord givesData freshStands freshOrders freshChannel fresh rested standing sensing placed ordered after checked areaIf named namedBy workReads allRead countsIn gets idOf searchWork readWork selectedOr given homeJob onSearched searchPlan onRead readPlan numberFrom compared fieldOf howOf comparison satisfies found searched searchGot searchBy searches endsWell stride wrongLength goesOn onward heldAfter storageAfter obeys acts planReads commandReads under jumped settled obeyed takes step run testedReads wordReads selectionFits storageFits standsFit ordersFit channelFits heldFits guardOf guards beginning firstWord begins starts ran goes filled home count zeroth alone stocked hurtCount
 reading = record {
   sound = stocked-sound;
   sound-alone = sound-tracks alone (List·Memᴰ·head refl);
@@ -114,7 +114,7 @@ data-hurt =
     (λ e. let z : _≡_ {A = ℕ} 1 0 = ap (λ (l : List ℕ). getD l 0 0) e in omega arith) refl refl)
 
 pub not-empty : NotEmpty
-unfolding touches any partNo rowOf sameArea hurtData part overlay bytesOf cellsOf allBytes marksFrom marks Check.step feed byteBits bits check Area.checked agrees goodCells laid areaCells readable areaBytes countsOf countsAt readCount keyCells keyArea dataArea scan hunt countFirst aheadOr nextRecord nextId spotFits senseOf movedBy begunBy wordAt testedCommand testedWord tested stored statusFor packFits startOf trackAt withTrack legal readOf writeOf searchOf commandOf looks worksHome searchesHome selects givesData freshStands freshOrders freshChannel fresh rested standing sensing placed ordered after checked areaIf named namedBy workReads allRead countsIn gets seeing saw idOf sent searchWork readWork given onSearched searchPlan onRead readPlan numberFrom compared fieldOf howOf comparison satisfies found searched searchGot searchBy searches offered isEmpty moved readGot readBy reads spacedTo spaceRecord spaces controls puts unitStatus endsWell stride wrongLength lengthStatus goesOn onward heldAfter statusAfter storageAfter built obeys acts planReads commandReads under settled obeyed takes step run testedReads wordReads selectionFits storageFits standsFit ordersFit channelFits heldFits guardOf guards beginning firstWord begins starts ran goes filled home count stocked hurtCount
+unfolding touches any partNo rowOf sameArea hurtData part overlay bytesOf cellsOf allBytes marksFrom marks Check.step feed byteBits bits check Area.checked agrees goodCells laid areaCells readable areaBytes countsOf countsAt readCount keyCells keyArea dataArea scan hunt countFirst aheadOr nextRecord nextId spotFits senseOf movedBy begunBy wordAt testedCommand testedWord tested stored statusFor packFits startOf trackAt withTrack legal readOf writeOf searchOf commandOf looks worksHome searchesHome selects givesData freshStands freshOrders freshChannel fresh rested standing sensing placed ordered after checked areaIf named namedBy workReads allRead countsIn gets seeing saw idOf sent searchWork readWork given onSearched searchPlan onRead readPlan numberFrom compared fieldOf howOf comparison satisfies found searched searchGot searchBy searches offered isEmpty moved readGot readBy reads spacedTo spaceRecord spaces controls puts unitStatus endsWell stride wrongLength lengthStatus goesOn onward heldAfter statusAfter storageAfter obeys acts planReads commandReads under settled obeyed takes step run testedReads wordReads selectionFits storageFits standsFit ordersFit channelFits heldFits guardOf guards beginning firstWord begins starts ran goes filled home count stocked hurtCount
 not-empty = record {
   sound = stocked-sound;
   count-own = ownCount (Marker 32) refl;

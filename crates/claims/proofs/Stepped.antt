@@ -2,7 +2,7 @@
 -- that area the two outcomes are one, where it reads it the word ends in Data Check. Assumes nothing.
 use Prim.Native.Nat.{ℕ, _+_, _-_, _*_, _<_, _≤_, min}
 use mathlib.Core.Path.{_≡_, refl, sym, ap, ap₂, _∙_, subst}
-use mathlib.Core.Bool.{Bool, true, false, not, false≢true}
+use mathlib.Core.Bool.{Bool, true, false, false≢true}
 use mathlib.Core.List.{List}
 use mathlib.Core.Logic.{_⊎_, inl, inr}
 use native.Mathlib.Omega.{arith}
@@ -40,13 +40,13 @@ use Rattle.held.specs.Held.{rested}
 use Rattle.outcome.specs.declared.Done.{Done}
 use Rattle.outcome.specs.Outcome.{sensing, checked}
 use Rattle.settle.specs.Settle.{unitStatus, endsWell, wrongLength, lengthStatus, goesOn, heldAfter, statusAfter, storageAfter}
-use Rattle.chain.specs.Act.{Acted, built, acts, commandReads}
-use Rattle.chain.specs.Step.{World, world, under, stops, settled, obeyed, takes, step, testedReads, wordReads}
+use Rattle.chain.specs.Act.{Acted, acts, commandReads}
+use Rattle.chain.specs.Step.{World, world, under, stops, settled, obeyed, takes, step, testedReads, wordReads, isWrite, testedWrites}
 use Rattle.chain.specs.Legal.{Legal}
 use Rattle.chain.proofs.Legal.{track-whole, selected-on}
 use Rattle.damage.specs.Damage.{any, sameArea}
 use Rattle.damage.proofs.Hurts.{Hurt, damaged-hurt, same-area}
-use Rattle.claims.specs.Demand3.{track, Harmed, isWrite, testedWrites, writes, readsIt, Alike, dataCheck, DataChecked}
+use Rattle.claims.specs.Demand3.{track, Harmed, writes, readsIt, Alike, dataCheck, DataChecked}
 use Rattle.claims.proofs.Obeyed.{obeys-kept, obeys-broken, obeys-still}
 
 -- ---- how the channel ends a Data Check: no byte was moved, and the chain is at its end
@@ -156,7 +156,7 @@ module _ (n s : ℕ) (x : Area) (c c′ : List ℕ) (harm : Harmed n s x c c′)
     still d cells q e = ap (withTrack cells (under g h)) (obeys-still g (commandOf (d .code)) (h .stands) (h .orders) d st _ q) ∙ back cells e
 
     hits : Word → Bool
-    hits d = both (eqb n no) (any (sameArea x) (commandReads (built (commandOf (d .code))) (h .stands) (h .orders) (trackAt c (under g h))))
+    hits d = both (eqb n no) (any (sameArea x) (commandReads (commandOf (d .code)) (h .stands) (h .orders) (trackAt c (under g h))))
 
     settle-kept : (d : Word) → isWrite (commandOf (d .code)) ≡ false → Did d c′ .done ≡ Did d c .done → Did d c′ .storage ≡ Did d c .storage
         → Alike c c′ (obeyed g (world h st c) d) (obeyed g (world h st c′) d)

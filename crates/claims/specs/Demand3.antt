@@ -28,7 +28,7 @@ use Rattle.commands.specs.Commands.{commandOf}
 use Rattle.held.specs.declared.Held.{Held}
 use Rattle.held.specs.Held.{rested}
 use Rattle.outcome.specs.Outcome.{sensing}
-use Rattle.chain.specs.Step.{World, world, step, run, wordReads}
+use Rattle.chain.specs.Step.{World, world, step, run, wordReads, testedWrites}
 use Rattle.sound.specs.Sound.{Sound}
 use Rattle.damage.specs.Damage.{Own, Damaged, any, sameArea}
 use Rattle.host.specs.declared.Answer.the-variants.{ChainEnded}
@@ -52,18 +52,6 @@ pub record Harmed (n s : ℕ) (x : Area) (c c′ : List ℕ) : Type 0 where
   pub damaged : Damaged s x (track c n) (track c′ n)
 
 -- ---- what a word that runs does
-
-unfoldable pub isWrite : Command → Bool
-isWrite (Controls c) = false
-isWrite (Searches c) = false
-isWrite (Reads c) = false
-isWrite (Writes c) = true
-isWrite Unknown = false
-
-unfoldable pub testedWrites : Tested → Bool
-testedWrites (Obey d) = isWrite (commandOf (d .code))
-testedWrites (Jump a) = false
-testedWrites (Bad cause) = false
 
 -- the next word is 19, 15, 1D, 05 or 0D
 unfoldable pub writes : World → Bool

@@ -1,5 +1,4 @@
--- Document 01, "Figures to check": the starred figures, in one table. 9 comes with the writes.
--- Assumes nothing.
+-- Document 01, "Figures to check": the starred figures, in one table. Assumes nothing.
 use Prim.Native.Nat.{ℕ, suc, _/_, _%_}
 use mathlib.Core.Path.{_≡_}
 use mathlib.Core.Bool.{true, false}
@@ -109,6 +108,12 @@ abbrev pub idWord : ℕ → ℕ → Hears
 idWord code byte =
     goes onePack 1 (world (beginning fresh 0 256) (storageWith (word code 128 0x40 5) (0 ∷ 0 ∷ 0 ∷ 0 ∷ byte ∷ [])) idTwo)
 
+-- 9: on that track, fresh: Search ID equal with flag 20 over so many bytes of 0000000002; at 272 Write Data, count 8
+abbrev pub searchThenWrite : ℕ → ℕ → Hears
+searchThenWrite n bytes =
+    goes onePack n
+    (world (beginning fresh 0 256) (storageWith (word 0x31 128 0x60 bytes ++ replicate 8 0 ++ word 0x05 128 0x00 8) (0 ∷ 0 ∷ 0 ∷ 0 ∷ 2 ∷ [])) idTwo)
+
 -- a fact of a full pack, whatever its 8,314,880 cells hold
 abbrev pub OnFullPack : (List ℕ → Type 0) → Type 0
 OnFullPack fact = (cells : List ℕ) → length cells ≡ 8314880 → fact cells
@@ -174,3 +179,13 @@ pub record Figures : Type 0 where
   pub eight-low-high : nextOf (idWord 0x51 3) ≡ 264
   pub eight-low-equal : nextOf (idWord 0x31 3) ≡ 264
   pub eight-low-equal-or-high : nextOf (idWord 0x71 3) ≡ 264
+  -- 9. with flag 20, equal on 4 of 5 ID bytes satisfies 31, yet 05 after it gets 80 10, and no cell changes
+  pub nine-satisfied : nextOf (searchThenWrite 1 4) ≡ 272
+  pub nine-not-whole : searchThenWrite 1 4 .left .held .orders .whole ≡ false
+  pub nine-end : searchThenWrite 2 4 .answer ≡ ChainEnded
+  pub nine-status : statusOf (searchThenWrite 2 4) ≡ 0x00 ∷ 0x00 ∷ 0x01 ∷ 0x18 ∷ 0x0E ∷ 0x00 ∷ 0x00 ∷ 0x08 ∷ []
+  pub nine-sense : standsOf (searchThenWrite 2 4) .sense ≡ sense 0x80 0x10
+  pub nine-cells : searchThenWrite 2 4 .left .cells ≡ idTwo
+  -- equal on all 5 it is licensed, and writes
+  pub nine-whole : searchThenWrite 1 5 .left .held .orders .whole ≡ true
+  pub nine-written : statusOf (searchThenWrite 2 5) ≡ 0x00 ∷ 0x00 ∷ 0x01 ∷ 0x18 ∷ 0x0C ∷ 0x00 ∷ 0x00 ∷ 0x00 ∷ []

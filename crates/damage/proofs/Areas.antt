@@ -91,7 +91,7 @@ module _ (t : List ℕ) where
           (λ b. body (omega (arith, some-key (countsAt t c) z))) (split i (c + 11 + (countsAt t c .kl + 2)))
 
   -- no marker stands in it
-  unmarked : (c q : ℕ) → Record t c → c ≤ q → getD t q 0 ≡ 512 → endAt t c ≤ q
+  pub unmarked : (c q : ℕ) → Record t c → c ≤ q → getD t q 0 ≡ 512 → endAt t c ≤ q
   unmarked c q R h m = ⊎-elim (λ k. absurd (no-marker (getD t q 0) (record-recorded c q R h k) m)) (λ k. k) (split q (endAt t c))
 
   -- every marker from p on begins a record
@@ -105,7 +105,7 @@ module _ (t : List ℕ) where
 
   -- ---- the records of a soundly written track
 
-  begun-marker : (p : ℕ) → Begun t (Marker p) → (7 ≤ p) × (getD t p 0 ≡ 512)
+  pub begun-marker : (p : ℕ) → Begun t (Marker p) → (7 ≤ p) × (getD t p 0 ≡ 512)
   unfolding spotFits markAt
   begun-marker p b =
       let e = sym (getD-marks t p) ∙ b in
@@ -116,7 +116,7 @@ module _ (t : List ℕ) where
   begun-from Zero b = omega arith
   begun-from (Marker p) b = omega (arith, begun-marker p b .0)
 
-  begun-record : Sound t → (r : Spot) → Begun t r → Record t (countFirst r)
+  pub begun-record : Sound t → (r : Spot) → Begun t r → Record t (countFirst r)
   unfolding countFirst
   begun-record S Zero b = S .zero
   begun-record S (Marker p) b =
@@ -124,7 +124,7 @@ module _ (t : List ℕ) where
       begins (S .rest) p (unmarked 7 p (S .zero) (B .0) (B .1)) (B .1)
 
   -- of two records one ends before the other begins
-  begun-apart : Sound t → (r r′ : Spot) → Begun t r → Begun t r′ → countFirst r < countFirst r′ → endAt t (countFirst r) < countFirst r′
+  pub begun-apart : Sound t → (r r′ : Spot) → Begun t r → Begun t r′ → countFirst r < countFirst r′ → endAt t (countFirst r) < countFirst r′
   unfolding countFirst
   begun-apart S r Zero b b′ h = absurd (omega (arith, begun-from r b))
   begun-apart S r (Marker q) b b′ h =

@@ -152,7 +152,8 @@ fn put(c: Read, place: u16, n: Counts, w: Word, storage: &mut [u8], track: &[u16
     }
 }
 
-fn moved(empty: bool, s: Stands, o: Orders, w: Word, j: Job, n: u32) -> Done
+// What is left with the unit after bytes have moved: Unit Exception if DL is 0.
+pub fn moved(empty: bool, s: Stands, o: Orders, w: Word, j: Job, n: u32) -> Done
     ensures { λ r. ⌜ r ≡ moved empty s o w j n ⌝ }
 {
     let end = ending(empty);

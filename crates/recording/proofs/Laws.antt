@@ -56,7 +56,7 @@ check-behind t first w n e b h =
 
 -- ---- whole areas, by what each call left
 
-padded-bytes : (n : ℕ) (v : List ℕ) → Bytes v → Bytes (padded n v)
+pub padded-bytes : (n : ℕ) (v : List ℕ) → Bytes v → Bytes (padded n v)
 unfolding padded
 padded-bytes zero v h i = omega arith
 padded-bytes (suc n) [] h zero = omega arith

@@ -8,7 +8,7 @@ use native.Mathlib.Omega.{arith}
 use lib.IntN.{ℤ, pos, subℕ, _+ℤ_, _-ℤ_, negℤ, +ℤ-assoc, negℤ-+ℤ, pos-+ℤ-pos}
 use lib.Signed.{mag, leZ}
 use lib.Dec.{ltb, leb}
-use borrow.Author.Tests.{ltb-true, ltb-false, le-ltb, le-leb, lt-leb}
+use borrow.Author.Tests.{ltb-true, ltb-false, le-ltb, le-leb, lt-leb, leb-true}
 use mir.Syntax.{w64}
 use mir.Val.{SFits, toZ, ofZ}
 use mir.ValLaws.{toZ-pos, toZ-ofZ}
@@ -78,3 +78,7 @@ module _ (f : ℕ) (hf : f < 2 ^ 32) where
 -- where a record would end past the track there is no room, however far past
 pub no-room : (first needs : ℕ) → trackCells < first + needs → fits first needs ≡ false
 no-room first needs h = fits-is first needs ∙ lt-leb (first + needs) trackCells h
+
+-- and what fits ends on the track
+pub fits-ends : (first needs : ℕ) → fits first needs ≡ true → first + needs ≤ trackCells
+fits-ends first needs e = leb-true (first + needs) trackCells (sym (fits-is first needs) ∙ e)

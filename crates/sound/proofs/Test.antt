@@ -13,9 +13,9 @@ use borrow.Author.Tests.{eqb-true, ne-eqb, eq-eqb}
 use Rattle.cells.specs.Choice.{pick, both, either}
 use Rattle.cells.specs.Cells.{trackCells}
 use Rattle.cells.proofs.Tests.{first-of, second-of}
-use Rattle.areas.specs.Areas.{homeArea, zeroFirst, countArea, keyArea, dataArea, readable, areaBytes, countsAt, recordCells, endBy}
+use Rattle.areas.specs.Areas.{homeArea, homeFlag, zeroFirst, countArea, keyArea, dataArea, readable, areaBytes, countsAt, recordCells, endBy}
 use Rattle.areas.specs.Flags.{flagOfZero, flagAfter}
-use Rattle.sound.specs.Sound.{homeFlag, flagAt, endAt, Record, Records, none, more, Sound}
+use Rattle.sound.specs.Sound.{flagAt, endAt, Record, Records, none, more, Sound}
 use Rattle.sound.specs.Test.{allGaps, oneZero, recordOk, recordsOk, soundly}
 
 -- ---- choices

@@ -6,13 +6,10 @@ use mathlib.Core.Bool.{true}
 use mathlib.Core.List.{List, [], _∷_}
 use lib.ListN.{length, getD}
 use Rattle.cells.specs.Cells.{trackCells, marker, gap}
-use Rattle.areas.specs.Areas.{homeArea, zeroFirst, countArea, keyArea, dataArea, readable, areaBytes, countsAt, endBy}
+use Rattle.areas.specs.Areas.{homeArea, homeFlag, zeroFirst, countArea, keyArea, dataArea, readable, areaBytes, countsAt, endBy}
 use Rattle.areas.specs.Flags.{flagOfZero, flagAfter}
 
--- the home address's flag byte, and the flag of the count area at c
-abbrev pub homeFlag : List ℕ → ℕ
-homeFlag t = getD (areaBytes t homeArea) 0 0
-
+-- the flag of the count area at c
 abbrev pub flagAt : List ℕ → ℕ → ℕ
 flagAt t c = countsAt t c .flag
 

@@ -6,9 +6,9 @@ use lib.ListN.{length, getD, drop}
 use lib.Dec.{eqb}
 use Rattle.cells.specs.Choice.{pick, both, either}
 use Rattle.cells.specs.Cells.{trackCells, marker, gap}
-use Rattle.areas.specs.Areas.{homeArea, zeroFirst, countArea, keyArea, dataArea, readable, areaBytes, countsAt}
+use Rattle.areas.specs.Areas.{homeArea, homeFlag, zeroFirst, countArea, keyArea, dataArea, readable, areaBytes, countsAt}
 use Rattle.areas.specs.Flags.{flagOfZero, flagAfter}
-use Rattle.sound.specs.Sound.{homeFlag, flagAt, endAt}
+use Rattle.sound.specs.Sound.{flagAt, endAt}
 
 unfoldable pub allGaps : List ℕ → Bool
 allGaps [] = true

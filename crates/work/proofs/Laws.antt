@@ -56,8 +56,9 @@ module _ (t : List ℕ) (c : ℕ) (key body : Bool) (n : Counts) (k d : Area) (p
       ap (allRead t (areaIf x k)) e ∙ read-append t (areaIf x k) (areaIf y d) (Sees n)
       ∙ (λ i. allRead t (areaIf (u i) (p i) ++ areaIf (v i) (q i)) (Sees n))
 
-pub home-read : (t : List ℕ) (a : Area) (g : Got) → a ≡ homeArea → g ≡ allRead t (a ∷ []) (Sees noCounts) → g ≡ allRead t (homeArea ∷ []) (Sees noCounts)
-home-read t a g p e = e ∙ ap (λ (x : Area). allRead t (x ∷ []) (Sees noCounts)) p
+pub home-read : (t : List ℕ) (a : Area) (n : Counts) (g : Got) → a ≡ homeArea → n ≡ noCounts → g ≡ allRead t (a ∷ []) (Sees n)
+    → g ≡ allRead t (homeArea ∷ []) (Sees noCounts)
+home-read t a n g p q e = e ∙ (λ i. allRead t (p i ∷ []) (Sees (q i)))
 
 -- ---- by the count area
 

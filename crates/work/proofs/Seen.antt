@@ -27,7 +27,7 @@ use Rattle.work.proofs.Laws.{area-bytes}
 
 -- ---- an area that is readable lies on the track
 
-lies : (t : List ℕ) (a : Area) → readable t a ≡ true → a .first + a .bytes + 2 ≤ length t
+pub lies : (t : List ℕ) (a : Area) → readable t a ≡ true → a .first + a .bytes + 2 ≤ length t
 lies t a r = go (decLt (length t) (a .first + a .bytes + 2))
   where
     go : Dec (length t < a .first + a .bytes + 2) → a .first + a .bytes + 2 ≤ length t

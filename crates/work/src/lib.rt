@@ -64,18 +64,25 @@ fn read_named(track: &[u16], c: u16, key: bool, body: bool, n: Counts) -> Got
     read_if(track, keyed, areas::key_area(c, n), got)
 }
 
-// The home address.
-fn read_home(track: &[u16]) -> Got
-    ensures { λ r. ⌜ r ≡ allRead (now (track .entry)) (homeArea ∷ []) (Sees noCounts) ⌝ }
+// Where no count is read.
+pub fn no_counts() -> Counts
+    ensures { λ r. ⌜ r ≡ noCounts ⌝ }
 {
-    let none = Counts {
+    Counts {
         flag: 0,
         cc: 0,
         hh: 0,
         r: 0,
         kl: 0,
         dl: 0,
-    };
+    }
+}
+
+// The home address.
+fn read_home(track: &[u16]) -> Got
+    ensures { λ r. ⌜ r ≡ allRead (now (track .entry)) (homeArea ∷ []) (Sees noCounts) ⌝ }
+{
+    let none = no_counts();
     read_area(track, areas::home_area(), Got::Sees(none))
 }
 

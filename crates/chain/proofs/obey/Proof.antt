@@ -1,10 +1,15 @@
--- `chain::obey` meets its contract: each family by its own contract, a command that is not built as an unknown code. Assumes nothing.
-use mathlib.Core.Path.{refl}
-use Rattle.chain.specs.Act.{obeys}
-use Rattle.chain.proofs.Laws.{control-obeyed, search-obeyed, read-obeyed, not-obeyed}
+-- `chain::obey` meets its contract: each family by its own contract, no command as an unknown code. Assumes nothing.
+use Rattle.chain.proofs.Laws.{control-obeyed, search-obeyed, read-obeyed, write-obeyed, not-obeyed}
 use borrow.Author.Needs.{needs}
 use Rattle.chain.proofs.obey.Statement.{statement}
 use Rattle.chain.proofs.obey.Tie as tie
+use Rattle.chain.proofs.obey.Reads as reads
+use Rattle.chain.proofs.obey.Lts as lts
+use Rattle.chain.proofs.controlled.Reads as controlled-reads
+use Rattle.outcome.proofs.checked.Reads as checked-reads
+use Rattle.read.proofs.read.Reads as read-reads
+use Rattle.search.proofs.search.Reads as search-reads
+use Rattle.write.proofs.write.Reads as write-reads
 
 enum-known-c : tie.Need-enum-known-c
 enum-known-c c = search needs
@@ -24,17 +29,17 @@ enum-known-c-3 c = search needs
 read-requires : tie.Need-read-requires
 read-requires c κs = search needs
 
+enum-known-c-4 : tie.Need-enum-known-c-4
+enum-known-c-4 c = search needs
+
+write-requires : tie.Need-write-requires
+write-requires c κs = search needs
+
 enum-told : tie.Need-enum-told
 enum-told c = search needs
 
 checked-requires : tie.Need-checked-requires
 checked-requires c κs = search needs
-
-enum-told-2 : tie.Need-enum-told-2
-enum-told-2 c = search needs
-
-checked-requires-2 : tie.Need-checked-requires-2
-checked-requires-2 c κs = search needs
 
 same-length : tie.Need-same-length
 same-length c = search needs
@@ -65,13 +70,17 @@ same-length-6 c = search needs
 returns-3 : tie.Need-returns-3
 returns-3 c = read-obeyed _ _ _ _ _ _ _ _ _ _ (c .before .before .before .before .before .before .c3 .given .1) (c .before .before .read .ensures)
 
+same-length-7 : tie.Need-same-length-7
+same-length-7 c = search needs
+
+same-length-8 : tie.Need-same-length-8
+same-length-8 c = search needs
+
 returns-4 : tie.Need-returns-4
-unfolding obeys
-returns-4 c = not-obeyed _ _ _ _ _ _ _ _ _ refl (c .before .enum-told .given .1) (c .checked .ensures)
+returns-4 c = write-obeyed _ _ _ _ _ _ _ _ _ _ (c .before .before .before .before .before .before .c4 .given .1) (c .before .before .write .ensures)
 
 returns-5 : tie.Need-returns-5
-unfolding obeys
-returns-5 c = not-obeyed _ _ _ _ _ _ _ _ _ refl (c .before .enum-told2 .given .1) (c .checked2 .ensures)
+returns-5 c = not-obeyed _ _ _ _ _ _ _ _ (c .before .enum-told .given .1) (c .checked .ensures)
 
 pub obey-spec : {M : Type 1} → statement M
 obey-spec =
@@ -83,10 +92,10 @@ obey-spec =
     search-requires
     enum-known-c-3
     read-requires
+    enum-known-c-4
+    write-requires
     enum-told
     checked-requires
-    enum-told-2
-    checked-requires-2
     same-length
     same-length-2
     returns
@@ -96,5 +105,7 @@ obey-spec =
     same-length-5
     same-length-6
     returns-3
+    same-length-7
+    same-length-8
     returns-4
     returns-5)

@@ -4,6 +4,9 @@ use borrow.Author.Needs.{needs}
 use Rattle.work.proofs.read_home.Statement.{statement}
 use Rattle.work.proofs.read_home.Tie as tie
 
+no-counts-requires : tie.Need-no-counts-requires
+no-counts-requires c κs = search needs
+
 home-area-requires : tie.Need-home-area-requires
 home-area-requires c κs = search needs
 
@@ -11,7 +14,7 @@ read-area-requires : tie.Need-read-area-requires
 read-area-requires c κs = search needs
 
 returns : tie.Need-returns
-returns c = home-read _ _ _ (c .before .home-area .ensures) (c .read-area .ensures)
+returns c = home-read _ _ _ _ (c .before .home-area .ensures) (c .before .before .no-counts .ensures) (c .read-area .ensures)
 
 pub read-home-spec : {M : Type 1} → statement M
-read-home-spec = tie.close (tie.spec home-area-requires read-area-requires returns)
+read-home-spec = tie.close (tie.spec no-counts-requires home-area-requires read-area-requires returns)

@@ -1,0 +1,144 @@
+-- What the next word changes: its command changes the track under the head and no other; its bytes are stored, and the status word where the chain
+-- ends. Assumes nothing.
+use Prim.Native.Nat.{ℕ, _+_, _-_, _<_, _≤_}
+use mathlib.Core.Path.{_≡_, refl, sym, ap, _∙_, subst}
+use mathlib.Core.Bool.{Bool, true, false, not}
+use mathlib.Core.List.{List}
+use native.Mathlib.Omega.{arith}
+use lib.ListN.{length, getD}
+use Rattle.cells.specs.Choice.{pick, both}
+use Rattle.cells.specs.Bytes.{overlay}
+use Rattle.cells.specs.Cells.{trackCells}
+use Rattle.cells.proofs.Laws.{getD-part, overlay-same}
+use Rattle.rows.specs.declared.Row.{Row}
+use Rattle.words.specs.declared.Word.{Word}
+use Rattle.words.specs.declared.Status.{Status}
+use Rattle.words.specs.declared.Tested.{Tested}
+use Rattle.words.specs.declared.Tested.the-variants.{Obey, Jump, Bad}
+use Rattle.words.specs.Status.{statusAt, statusBytes, stored}
+use Rattle.words.proofs.Obeys.{TestedIn, tested-in}
+use Rattle.pack.specs.declared.Shape.{Shape}
+use Rattle.pack.specs.Tracks.{trackAt, withTrack}
+use Rattle.pack.proofs.Laws.{start-inside, others-kept}
+use Rattle.commands.specs.Commands.{commandOf}
+use Rattle.outcome.specs.declared.Ending.the-variants.{Check}
+use Rattle.settle.specs.Settle.{goesOn, statusAfter, storageAfter}
+use Rattle.chain.specs.Step.{World, under, stops, settled, obeyed, takes, step}
+use Rattle.chain.specs.Legal.{Legal}
+use Rattle.chain.proofs.Legal.{Fine, acts-fine, track-whole, step-sizes}
+use Rattle.confined.specs.Confined.{among, mayChange, mayStore, CommandConfined, next, selected, does, wordChanges, changes, inStatus, wordStores, stores, StepConfined}
+use Rattle.confined.proofs.Outside.{neither, out-of, out-test, in-between, overlay-kept, overlay-inside}
+use Rattle.confined.proofs.Commands.{command-confined}
+
+-- the status word
+stored-kept : (s : List ℕ) (x : Status) (i : ℕ) → statusAt ≤ length s → inStatus i ≡ false → getD (stored s x) i 0 ≡ getD s i 0
+unfolding stored
+stored-kept s x i h e = overlay-kept s statusAt (statusBytes x) i h e
+
+-- off the track under the head
+pub none-elsewhere : (g : Shape) (w : World) (x : Tested) (i : ℕ) → among (under g (w .held)) trackCells i ≡ false → wordChanges g w i x ≡ false
+unfolding wordChanges
+none-elsewhere g w (Obey d) i e =
+    ap (λ (b : Bool). both b (mayChange (commandOf (d .code)) (w .held .orders) (selected g w) (i - under g (w .held)))) e
+none-elsewhere g w (Jump a) i e = refl
+none-elsewhere g w (Bad cause) i e = refl
+
+module _ (g : Shape) (w : World) (L : Legal g w) where
+  abbrev start : ℕ
+  start = under g (w .held)
+
+  inside : start + trackCells ≤ length (w .cells)
+  unfolding under
+  inside = start-inside g _ _ (L .standing .on) (w .cells) (L .whole)
+
+  -- ---- the pack with the track put back
+
+  module _ (u : List ℕ) (long : length u ≡ trackCells) (i : ℕ) where
+    put-elsewhere : among start trackCells i ≡ false → getD (withTrack (w .cells) start u) i 0 ≡ getD (w .cells) i 0
+    put-elsewhere e = others-kept (w .cells) u start i long inside (out-of start trackCells i e)
+
+    -- a cell that the track keeps
+    put-same : among start trackCells i ≡ true → getD u (i - start) 0 ≡ getD (selected g w) (i - start) 0
+        → getD (withTrack (w .cells) start u) i 0 ≡ getD (w .cells) i 0
+    unfolding withTrack selected trackAt
+    put-same e k =
+        let b = in-between start trackCells i e in
+        let at : start + (i - start) ≡ i = omega (arith, b .0) in
+        let j : i - start < 4096 = omega (arith, b .0, b .1) in
+        ap (λ (m : ℕ). getD (overlay (w .cells) start u) m 0) (sym at)
+        ∙ overlay-inside (w .cells) start u (i - start) (omega (arith, long, inside)) (omega (arith, long)) ∙ k
+        ∙ getD-part (w .cells) start 4096 (i - start) j ∙ ap (λ (m : ℕ). getD (w .cells) m 0) at
+
+  -- ---- a word that is obeyed
+
+  module _ (d : Word) (r : d .address + d .count ≤ length (w .storage)) where
+    fine : Fine g (w .held .stands) (length (w .storage)) (length (selected g w)) (does g w d)
+    unfolding does selected
+    fine = acts-fine g (w .held .stands) (L .standing) (w .held .orders) _ (L .ordered) d (w .storage) (record { area = r }) (track-whole g w L)
+
+    confined : CommandConfined g (w .held .stands) (w .held .orders) d (w .storage) (selected g w)
+    unfolding selected
+    confined = command-confined g (w .held .stands) (w .held .orders) d (w .storage) _ (track-whole g w L) r
+
+    whole : length (does g w d .track) ≡ trackCells
+    unfolding selected
+    whole = fine .track ∙ track-whole g w L .long
+
+    obeyed-cells : (i : ℕ) → wordChanges g w i (Obey d) ≡ false → getD (obeyed g w d .cells) i 0 ≡ getD (w .cells) i 0
+    unfolding wordChanges obeyed settled does selected
+    obeyed-cells i e = go (among start trackCells i) refl e
+      where
+        go : (b : Bool) → among start trackCells i ≡ b → both b (mayChange (commandOf (d .code)) (w .held .orders) (selected g w) (i - start)) ≡ false
+            → getD (withTrack (w .cells) start (does g w d .track)) i 0 ≡ getD (w .cells) i 0
+        go true p e = put-same (does g w d .track) whole i p (confined .cells (i - start) e)
+        go false p e = put-elsewhere (does g w d .track) whole i p
+
+    obeyed-checks : (row : Row) → does g w d .done .ending ≡ Check row → obeyed g w d .cells ≡ w .cells
+    unfolding obeyed settled does selected withTrack trackAt
+    obeyed-checks row e = ap (withTrack (w .cells) start) (confined .checks row e) ∙ overlay-same (w .cells) start trackCells inside
+
+    obeyed-storage : (i : ℕ) → wordStores g w i (Obey d) ≡ false → getD (obeyed g w d .storage) i 0 ≡ getD (w .storage) i 0
+    unfolding wordStores obeyed settled storageAfter does selected
+    obeyed-storage i e =
+        let n = neither (mayStore d (does g w d .done) i) (both (not (goesOn d (does g w d .done))) (inStatus i)) e in
+        go (goesOn d (does g w d .done)) (n .1) ∙ confined .storage i (n .0)
+      where
+        go : (b : Bool) → both (not b) (inStatus i) ≡ false
+            → getD (pick b (does g w d .storage) (stored (does g w d .storage) (statusAfter (w .held .channel) d (does g w d .done)))) i 0
+            ≡ getD (does g w d .storage) i 0
+        go true f = refl
+        go false f = stored-kept (does g w d .storage) _ i (omega (arith, fine .storage, L .room)) f
+
+  -- ---- any word
+
+  takes-cells : (x : Tested) → TestedIn (w .storage) x → (i : ℕ) → wordChanges g w i x ≡ false → getD (takes g w x .cells) i 0 ≡ getD (w .cells) i 0
+  unfolding takes stops
+  takes-cells (Obey d) r i e = obeyed-cells d r i e
+  takes-cells (Jump a) r i e = refl
+  takes-cells (Bad cause) r i e = refl
+
+  takes-storage : (x : Tested) → TestedIn (w .storage) x → (i : ℕ) → wordStores g w i x ≡ false
+      → getD (takes g w x .storage) i 0 ≡ getD (w .storage) i 0
+  unfolding takes stops wordStores
+  takes-storage (Obey d) r i e = obeyed-storage d r i e
+  takes-storage (Jump a) r i e = refl
+  takes-storage (Bad cause) r i e = stored-kept (w .storage) _ i (omega (arith, L .room)) e
+
+  in-storage : TestedIn (w .storage) (next w)
+  unfolding next
+  in-storage = tested-in (w .storage) (w .held .channel .next) (w .held .channel .«after_tic»)
+
+  checks-by : (d : Word) (x : Tested) → TestedIn (w .storage) x → x ≡ Obey d → (row : Row) → does g w d .done .ending ≡ Check row
+      → takes g w x .cells ≡ w .cells
+  unfolding takes
+  checks-by d x r e row f = ap (λ (y : Tested). takes g w y .cells) e ∙ obeyed-checks d (subst (TestedIn (w .storage)) e r) row f
+
+  pub step-confined : StepConfined g w
+  unfolding step changes stores next
+  step-confined = record {
+    cells = λ i e. takes-cells (next w) in-storage i e;
+    elsewhere = λ i o. takes-cells (next w) in-storage i (none-elsewhere g w (next w) i (out-test start trackCells i o));
+    checks = λ d e row f. checks-by d (next w) in-storage e row f;
+    long = step-sizes g w L .cells;
+    storage = λ i e. takes-storage (next w) in-storage i e;
+  }

@@ -1,0 +1,84 @@
+-- Document 01, "What lies on a track" and "Commands", the writes: what each of them leaves on a track. Write R0 leaves a soundly written
+-- track whatever lay behind the home address, which it read first; 1D, 05 and 0D leave one if the track was; Write HA leaves a readable
+-- home address and zeros from cell 7, which is not soundly written until a Write R0. Reading back returns the bytes written. A command
+-- ending in Unit Check changes no track cell. Assumes nothing.
+use Prim.Native.Nat.{ℕ, _+_, _<_, _≤_}
+use mathlib.Core.Path.{_≡_}
+use mathlib.Core.Bool.{Bool, true, false}
+use mathlib.Core.List.{List, _∷_}
+use lib.ListN.{length, getD}
+use Rattle.cells.specs.Bytes.{part, padded}
+use Rattle.cells.specs.Cells.{trackCells, gap}
+use Rattle.rows.specs.declared.Row.{Row}
+use Rattle.areas.specs.declared.Area.{Area}
+use Rattle.areas.specs.Areas.{homeBytes, homeArea, homeFlag, zeroFirst, countArea, countsAt, keyArea, dataArea, dataBytes, readable, areaBytes}
+use Rattle.areas.specs.Flags.{flagOfZero, flagAfter}
+use Rattle.hunt.specs.declared.Spot.{Spot}
+use Rattle.hunt.specs.Hunt.{countFirst}
+use Rattle.recording.specs.Recording.{countSent}
+use Rattle.commands.specs.declared.Write.{Write}
+use Rattle.commands.specs.declared.Write.the-variants.{WriteHome, WriteZero, WriteRecord, WriteData, WriteKeyData}
+use Rattle.held.specs.declared.Orders.{Orders}
+use Rattle.outcome.specs.declared.Ending.the-variants.{Check}
+use Rattle.licence.specs.declared.Aim.the-variants.{Takes}
+use Rattle.licence.specs.Licence.{aim}
+use Rattle.laying.specs.Laying.{newCounts}
+use Rattle.write.specs.Write.{keySent, WriteDone}
+use Rattle.sound.specs.Sound.{flagAt, endAt, Sound}
+
+-- ---- is the track left soundly written
+
+-- a home address, then zeros: there is no R0 yet
+pub record HomeOnly (t : List ℕ) : Type 0 where
+  pub long : length t ≡ trackCells
+  pub home : readable t homeArea ≡ true
+  pub zeros : (i : ℕ) → zeroFirst ≤ i → getD t i gap ≡ gap
+  pub unsound : Sound t → ⊥
+
+-- a write that was done on the track t left t′
+unfoldable pub Lasts : Write → List ℕ → List ℕ → Type 0
+Lasts WriteHome t t′ = HomeOnly t′
+Lasts WriteZero t t′ = Sound t′
+Lasts WriteRecord t t′ = Sound t → Sound t′
+Lasts WriteData t t′ = Sound t → Sound t′
+Lasts WriteKeyData t t′ = Sound t → Sound t′
+
+-- ---- reading back returns the bytes written; v are those at the word's address, with zeros for those that are missing
+
+-- an area can be read, and these are its bytes
+pub record Holds (t : List ℕ) (a : Area) (v : List ℕ) : Type 0 where
+  pub reads : readable t a ≡ true
+  pub bytes : areaBytes t a ≡ v
+
+-- a new record, its count area at c: the flag is the box's; the key if it has one; one zero byte of data if DL = 0
+pub record NewBack (flag : ℕ) (v t : List ℕ) (c : ℕ) : Type 0 where
+  pub count : Holds t (countArea c) (flag ∷ padded countSent v)
+  pub counts : countsAt t c ≡ newCounts flag v
+  pub key : 0 < newCounts flag v .kl
+      → Holds t (keyArea c (newCounts flag v)) (padded (newCounts flag v .kl) (part v countSent (newCounts flag v .kl)))
+  pub body : Holds t (dataArea c (newCounts flag v))
+      (padded (dataBytes (newCounts flag v)) (part v (countSent + newCounts flag v .kl) (newCounts flag v .dl)))
+
+-- an update of the record whose count area is at c, with its key or not: its count as it was
+pub record UpdateBack (key : Bool) (v t t′ : List ℕ) (c : ℕ) : Type 0 where
+  pub counts : countsAt t′ c ≡ countsAt t c
+  pub keyed : 0 < keySent key (countsAt t c)
+      → Holds t′ (keyArea c (countsAt t c)) (padded (countsAt t c .kl) (part v 0 (countsAt t c .kl)))
+  pub body : 0 < countsAt t c .dl
+      → Holds t′ (dataArea c (countsAt t c)) (padded (countsAt t c .dl) (part v (keySent key (countsAt t c)) (countsAt t c .dl)))
+
+-- a write that took the record whose count area is at c; 1D writes after it
+unfoldable pub ReadsBack : Write → ℕ → List ℕ → List ℕ → List ℕ → Type 0
+ReadsBack WriteHome c v t t′ = Holds t′ homeArea (padded homeBytes v)
+ReadsBack WriteZero c v t t′ = NewBack (flagOfZero (homeFlag t)) v t′ zeroFirst
+ReadsBack WriteRecord c v t t′ = NewBack (flagAfter (flagAt t c)) v t′ (endAt t c + 1)
+ReadsBack WriteData c v t t′ = UpdateBack false v t t′ c
+ReadsBack WriteKeyData c v t t′ = UpdateBack true v t t′ c
+
+-- ---- the command, with the bytes v at the word's address, on the track t
+
+-- it ended in Unit Check and no cell changed; or it did not, and what it left lasts and can be read back
+pub data Leaves (k : Write) (o : Orders) (v t : List ℕ) (x : WriteDone) : Type 0 where
+  unchanged : (row : Row) → x .done .ending ≡ Check row → x .track ≡ t → Leaves k o v t x
+  written : (spot : Spot) → aim k o ≡ Takes spot → ((row : Row) → x .done .ending ≡ Check row → ⊥)
+      → Lasts k t (x .track) → ReadsBack k (countFirst spot) v t (x .track) → Leaves k o v t x

@@ -1,0 +1,2 @@
+-- What lasts of the writes.
+pub mod Lasting

@@ -1,0 +1,3 @@
+-- Laws of what a write lays.
+pub mod Laws
+pub mod Calls

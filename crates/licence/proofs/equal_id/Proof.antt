@@ -1,0 +1,19 @@
+-- Each branch is a test of the model. Assumes nothing.
+use borrow.Author.Tests.{not-true, not-false}
+use Rattle.licence.specs.Licence.{equalId}
+use borrow.Author.Needs.{needs}
+use Rattle.licence.proofs.equal_id.Statement.{statement}
+use Rattle.licence.proofs.equal_id.Tie as tie
+use Rattle.licence.proofs.equal_id.Reads as reads
+use Rattle.licence.proofs.equal_id.Lts as lts
+
+returns : tie.Need-returns
+unfolding equalId
+returns c = rw (not-true (c .before .args .whole) (c .if1 .taken))
+
+returns-2 : tie.Need-returns-2
+unfolding equalId
+returns-2 c = rw (not-false (c .before .args .whole) (c .if1 .left))
+
+pub equal-id-spec : {M : Type 1} → statement M
+equal-id-spec = tie.close (tie.spec returns returns-2)

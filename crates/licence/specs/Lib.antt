@@ -1,0 +1,2 @@
+-- The model of what a write needs before it may write.
+pub mod Licence

@@ -1,0 +1,3 @@
+-- Laws of the writes.
+pub mod Kept
+pub mod Calls

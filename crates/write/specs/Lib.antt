@@ -1,0 +1,3 @@
+-- The model of the writes.
+pub mod Write
+pub mod Inside
