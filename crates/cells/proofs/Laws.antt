@@ -127,7 +127,6 @@ overlay-two l at n m x y h e =
     ∙ overlay-append l at (take n x) (take (n - length x) y) (omega (arith, length-take n x, length-take (n - length x) y))
     ∙ ap (overlay l at) (sym (take-append n x y))
 
--- outside of what is laid over nothing changes
 -- a part laid over where it was
 pub overlay-same : (l : List ℕ) (at n : ℕ) → at + n ≤ length l → overlay l at (part l at n) ≡ l
 unfolding overlay part
@@ -139,6 +138,7 @@ overlay-same l at n h =
     ∙ ap (λ (x : List ℕ). take at l ++ x) (take-append-drop n (drop at l))
     ∙ take-append-drop at l
 
+-- outside of what is laid over nothing changes
 pub overlay-before : (l : List ℕ) (at : ℕ) (v : List ℕ) (i : ℕ) → at ≤ length l → i < at → getD (overlay l at v) i 0 ≡ getD l i 0
 unfolding overlay
 overlay-before l at v i k h =

@@ -13,8 +13,7 @@ use Rattle.cells.specs.Cells.{trackCells, gap}
 use Rattle.rows.specs.declared.Sense.{Sense}
 use Rattle.rows.specs.Rows.{sense}
 use Rattle.words.specs.declared.Word.{Word}
-use Rattle.words.specs.declared.Tested.{Tested}
-use Rattle.words.specs.declared.Tested.the-variants.{Obey, Jump, Bad}
+use Rattle.words.specs.declared.Tested.the-variants.{Obey}
 use Rattle.words.specs.Words.{tested}
 use Rattle.words.specs.Status.{stored, statusFor}
 use Rattle.areas.specs.declared.Part.{Part}
@@ -22,9 +21,6 @@ use Rattle.areas.specs.declared.Part.the-variants as Part
 use Rattle.areas.specs.declared.Area.{Area}
 use Rattle.pack.specs.declared.Shape.{Shape}
 use Rattle.pack.specs.Tracks.{trackNo, trackAt}
-use Rattle.commands.specs.declared.Command.{Command}
-use Rattle.commands.specs.declared.Command.the-variants.{Controls, Searches, Reads, Writes, Unknown}
-use Rattle.commands.specs.Commands.{commandOf}
 use Rattle.held.specs.declared.Held.{Held}
 use Rattle.held.specs.Held.{rested}
 use Rattle.outcome.specs.Outcome.{sensing}

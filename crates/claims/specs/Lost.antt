@@ -4,7 +4,7 @@
 use Prim.Native.Nat.{ℕ}
 use mathlib.Core.Path.{_≡_}
 use mathlib.Core.List.{List, [], _∷_, _++_}
-use lib.IntN.{ℤ, negsuc}
+use lib.IntN.{negsuc}
 use lib.ListN.{replicate}
 use Rattle.house_check.specs.Area.{laid}
 use Rattle.areas.specs.Areas.{zeroFirst, endBy, needed}

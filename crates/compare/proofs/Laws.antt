@@ -12,7 +12,7 @@ use borrow.Author.Tests.{eq-eqb, ne-eqb, lt-ltb, le-ltb}
 use Rattle.cells.specs.Bytes.{numberFrom, number, part}
 use Rattle.cells.specs.Cells.{byteOf, bytesOf}
 use Rattle.cells.proofs.Laws.{length-bytesOf, getD-bytesOf, length-part, getD-part}
-use Rattle.cells.proofs.Numbers.{Bytes, number-less}
+use Rattle.cells.proofs.Numbers.{part-bytes, Bytes, number-less}
 use Rattle.compare.specs.declared.Compared.{Compared}
 use Rattle.compare.specs.declared.Compared.the-variants.{Low, Equal, High}
 use Rattle.compare.specs.Compare.{compared, comparedBytes, There}
@@ -72,13 +72,6 @@ module _ (x y : List ℕ) (l : length x ≡ length y) where
 
 -- ---- bytes of storage, and bytes of a track
 
-pub part-bytes : (s : List ℕ) (at m : ℕ) → at + m ≤ length s → Bytes s → Bytes (part s at m)
-part-bytes s at m h b i = go (decLt i m)
-  where
-    go : Dec (i < m) → getD (part s at m) i 0 < 256
-    go (yes k) = subst (λ (z : ℕ). z < 256) (sym (getD-part s at m i k)) (b (at + i))
-    go (no k) = subst (λ (z : ℕ). z < 256) (sym (List·getD-eq-default (part s at m) 0 (omega (arith, length-part s at m h)))) (omega arith)
-
 track-bytes : (t : List ℕ) → Bytes (bytesOf t)
 track-bytes t i = subst (λ (z : ℕ). z < 256) (sym (getD-bytesOf t i)) (omega arith)
 
@@ -113,19 +106,19 @@ module _ (t : List ℕ) (first : ℕ) (s : List ℕ) (address m : ℕ) where
       pub left-low : byteOf (getD t (first + j) 0) < getD s (address + j) 0 → left j n ≡ Low
       unfolding left
       left-low k =
-          rest-low _ _ one-length-of (track-bytes (part t first m)) (part-bytes s address m (here .inStorage) bytes) j n (omega (arith, length-field))
+          rest-low _ _ one-length-of (track-bytes (part t first m)) (part-bytes s address m bytes) j n (omega (arith, length-field))
           (omega (arith, track-byte, storage-byte))
 
       pub left-high : getD s (address + j) 0 < byteOf (getD t (first + j) 0) → left j n ≡ High
       unfolding left
       left-high k =
-          rest-high _ _ one-length-of (track-bytes (part t first m)) (part-bytes s address m (here .inStorage) bytes) j n (omega (arith, length-field))
+          rest-high _ _ one-length-of (track-bytes (part t first m)) (part-bytes s address m bytes) j n (omega (arith, length-field))
           (omega (arith, track-byte, storage-byte))
 
       pub left-next : byteOf (getD t (first + j) 0) ≡ getD s (address + j) 0 → (k : ℕ) × (left j n ≡ left (j + 1) k)
       unfolding left
       left-next k = (
         _,
-        rest-next _ _ one-length-of (track-bytes (part t first m)) (part-bytes s address m (here .inStorage) bytes) j n (omega (arith, length-field))
+        rest-next _ _ one-length-of (track-bytes (part t first m)) (part-bytes s address m bytes) j n (omega (arith, length-field))
             (track-byte ∙ k ∙ sym storage-byte),
       )

@@ -11,7 +11,7 @@ use borrow.Author.Tests.{leb-true}
 use Rattle.cells.specs.Choice.{pick}
 use Rattle.cells.specs.Bytes.{part}
 use Rattle.cells.specs.Cells.{marks}
-use Rattle.cells.proofs.Numbers.{Bytes}
+use Rattle.cells.proofs.Numbers.{Bytes, part-bytes}
 use Rattle.cells.proofs.Tests.{pick-all, first-picked}
 use Rattle.rows.specs.declared.Row.{Row}
 use Rattle.rows.specs.declared.Row.the-variants.{Unreadable, NoRoom, WrongBefore, WriteBarred}
@@ -49,7 +49,6 @@ use Rattle.write.specs.Write.{writeReads, countsFirst, readFirst, Laid, laidOut
 use Rattle.sound.specs.Sound.{Sound}
 use Rattle.damage.specs.Damage.{Begun}
 use Rattle.lasting.specs.Lasting.{HomeOnly, Lasts, UpdateBack, ReadsBack, Leaves, unchanged, written}
-use Rattle.lasting.proofs.New.{part-bytes}
 use Rattle.lasting.proofs.Format.{flag-of-zero, home-back, home-lasts, zero-back, zero-lasts, record-back, record-lasts}
 use Rattle.lasting.proofs.Update.{update-lasts, update-back}
 

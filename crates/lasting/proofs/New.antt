@@ -10,7 +10,7 @@ use lib.Dec.{eqb}
 use borrow.Author.Tests.{ne-eqb}
 use Rattle.cells.specs.Bytes.{part, padded}
 use Rattle.cells.proofs.Laws.{getD-part, length-padded}
-use Rattle.cells.proofs.Numbers.{Bytes}
+use Rattle.cells.proofs.Numbers.{Bytes, part-bytes}
 use Rattle.cells.proofs.Tests.{second-picked}
 use Rattle.house_check.specs.Area.{laid}
 use Rattle.house_check.proofs.Cells.{length-laid}
@@ -24,18 +24,6 @@ use Rattle.lasting.specs.Lasting.{Holds, NewBack}
 use Rattle.lasting.proofs.Same.{Has, has-front, has-back, has-area, record-by}
 
 -- ---- bytes
-
--- of a part, wherever it ends
-pub part-bytes : (v : List ℕ) (at n : ℕ) → Bytes v → Bytes (part v at n)
-unfolding part
-part-bytes v at n b i = go (decLt i n)
-  where
-    short : length (part v at n) ≤ n
-    short = omega (arith, length-take n (drop at v))
-
-    go : Dec (i < n) → getD (part v at n) i 0 < 256
-    go (yes h) = subst (λ (z : ℕ). z < 256) (sym (getD-part v at n i h)) (b (at + i))
-    go (no h) = subst (λ (z : ℕ). z < 256) (sym (List·getD-eq-default (part v at n) 0 {n = i} (omega (arith, short)))) (omega arith)
 
 pub sent-bytes : (v : List ℕ) (k at n : ℕ) → Bytes v → Bytes (padded k (part v at n))
 sent-bytes v k at n b = padded-bytes k (part v at n) (part-bytes v at n b)

@@ -1,7 +1,7 @@
 // The rows of the Unit Check table: what each puts into sense, and how many bytes its command moved.
 ghost use mathlib.Core.Path.{_≡_};
 ghost use Prim.Native.Nat.{min};
-ghost use Rattle.rows.specs.Rows.{senseOf, movedBy};
+ghost use Rattle.rows.specs.Rows.{sense, senseOf, movedBy};
 
 // A row of the table, in the table's order.
 pub enum Row {
@@ -25,59 +25,30 @@ pub struct Sense {
     pub byte1: u8,
 }
 
+// Sense by its two bytes.
+fn of_bytes(byte0: u8, byte1: u8) -> Sense
+    ensures { λ r. ⌜ r ≡ sense byte0 byte1 ⌝ }
+{
+    Sense { byte0, byte1 }
+}
+
 // What a row puts into sense.
 pub fn sense_of(row: Row) -> Sense
     ensures { λ r. ⌜ r ≡ senseOf row ⌝ }
 {
     match row {
-        Row::UnknownCode => Sense {
-            byte0: 0x80,
-            byte1: 0x00,
-        },
-        Row::BadMask => Sense {
-            byte0: 0x80,
-            byte1: 0x00,
-        },
-        Row::SecondMask => Sense {
-            byte0: 0x80,
-            byte1: 0x10,
-        },
-        Row::WrongBefore => Sense {
-            byte0: 0x80,
-            byte1: 0x10,
-        },
-        Row::SeekBarred => Sense {
-            byte0: 0x00,
-            byte1: 0x04,
-        },
-        Row::WriteBarred => Sense {
-            byte0: 0x80,
-            byte1: 0x04,
-        },
-        Row::BadSeek => Sense {
-            byte0: 0x81,
-            byte1: 0x00,
-        },
-        Row::Unreadable => Sense {
-            byte0: 0x08,
-            byte1: 0x00,
-        },
-        Row::UnreadableCount => Sense {
-            byte0: 0x08,
-            byte1: 0x80,
-        },
-        Row::NoRoom => Sense {
-            byte0: 0x00,
-            byte1: 0x40,
-        },
-        Row::NoMarker => Sense {
-            byte0: 0x00,
-            byte1: 0x02,
-        },
-        Row::SecondIndex => Sense {
-            byte0: 0x00,
-            byte1: 0x08,
-        },
+        Row::UnknownCode => of_bytes(0x80, 0x00),
+        Row::BadMask => of_bytes(0x80, 0x00),
+        Row::SecondMask => of_bytes(0x80, 0x10),
+        Row::WrongBefore => of_bytes(0x80, 0x10),
+        Row::SeekBarred => of_bytes(0x00, 0x04),
+        Row::WriteBarred => of_bytes(0x80, 0x04),
+        Row::BadSeek => of_bytes(0x81, 0x00),
+        Row::Unreadable => of_bytes(0x08, 0x00),
+        Row::UnreadableCount => of_bytes(0x08, 0x80),
+        Row::NoRoom => of_bytes(0x00, 0x40),
+        Row::NoMarker => of_bytes(0x00, 0x02),
+        Row::SecondIndex => of_bytes(0x00, 0x08),
     }
 }
 

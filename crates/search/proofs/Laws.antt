@@ -12,12 +12,13 @@ use Rattle.cells.specs.Choice.{pick, both}
 use Rattle.cells.specs.Bytes.{number, part}
 use Rattle.cells.proofs.Laws.{length-part, getD-part}
 use Rattle.cells.proofs.Tests.{zero-ltb, nonzero-ltb}
-use Rattle.cells.proofs.Numbers.{Bytes}
+use Rattle.cells.proofs.Numbers.{part-bytes, Bytes}
 use Rattle.words.specs.declared.Word.{Word}
 use Rattle.compare.specs.declared.Compared.{Compared}
 use Rattle.compare.specs.declared.Compared.the-variants.{Low, Equal, High}
 use Rattle.compare.specs.Compare.{compared}
-use Rattle.compare.proofs.Laws.{rest, rest-all, rest-none, rest-low, rest-high, rest-next, part-bytes}
+use Rattle.cells.proofs.Numbers.{part-bytes}
+use Rattle.compare.proofs.Laws.{rest, rest-all, rest-none, rest-low, rest-high, rest-next}
 use Rattle.commands.specs.declared.How.{How}
 use Rattle.held.specs.declared.Stands.{Stands}
 use Rattle.held.specs.declared.Orders.{Orders}
@@ -165,12 +166,12 @@ module _ (cc hh r : ℕ) (s : List ℕ) (at m : ℕ) where
 
       pub id-low : x < getD s (at + j) 0 → idLeft j n ≡ Low
       unfolding idLeft
-      id-low k = rest-low _ _ one-length id-bound (part-bytes s at m reach bs) j n inside (omega (arith, here, there))
+      id-low k = rest-low _ _ one-length id-bound (part-bytes s at m bs) j n inside (omega (arith, here, there))
 
       pub id-high : getD s (at + j) 0 < x → idLeft j n ≡ High
       unfolding idLeft
-      id-high k = rest-high _ _ one-length id-bound (part-bytes s at m reach bs) j n inside (omega (arith, here, there))
+      id-high k = rest-high _ _ one-length id-bound (part-bytes s at m bs) j n inside (omega (arith, here, there))
 
       pub id-next : x ≡ getD s (at + j) 0 → (k : ℕ) × (idLeft j n ≡ idLeft (j + 1) k)
       unfolding idLeft
-      id-next k = (_, rest-next _ _ one-length id-bound (part-bytes s at m reach bs) j n inside (here ∙ k ∙ sym there))
+      id-next k = (_, rest-next _ _ one-length id-bound (part-bytes s at m bs) j n inside (here ∙ k ∙ sym there))

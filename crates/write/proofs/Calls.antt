@@ -8,7 +8,7 @@ use native.Mathlib.Omega.{arith}
 use lib.ListN.{length, getD, drop, take}
 use lib.Dec.{ltb, eqb}
 use borrow.Author.Tests.{lt-ltb, le-ltb}
-use Rattle.cells.specs.Choice.{pick, both}
+use Rattle.cells.specs.Choice.{both}
 use Rattle.cells.specs.Bytes.{part, overlay, padded}
 use Rattle.cells.specs.Cells.{trackCells, marker, marks}
 use Rattle.cells.proofs.Tests.{first-picked, second-picked}
@@ -18,7 +18,7 @@ use Rattle.words.specs.declared.Word.{Word}
 use Rattle.house_check.specs.Area.{laid}
 use Rattle.areas.specs.declared.Area.{Area}
 use Rattle.areas.specs.declared.Counts.{Counts}
-use Rattle.areas.specs.Areas.{keyArea, dataArea, recordCells, endBy, needed, homeFlag}
+use Rattle.areas.specs.Areas.{keyArea, dataArea, recordCells, endBy, needed}
 use Rattle.areas.specs.Flags.{flagOfZero, flagAfter}
 use Rattle.areas.proofs.Laws.{home-flag}
 use Rattle.hunt.specs.declared.Spot.{Spot}
@@ -34,10 +34,9 @@ use Rattle.held.specs.declared.Selection.the-variants.{Nothing, On}
 use Rattle.held.specs.declared.Stands.{Stands}
 use Rattle.held.specs.declared.Orders.{Orders}
 use Rattle.work.specs.declared.Work.{Work}
-use Rattle.work.specs.declared.Work.the-variants.{Home, Record}
 use Rattle.work.specs.declared.Got.{Got}
 use Rattle.work.specs.declared.Got.the-variants.{Sees, Fails}
-use Rattle.work.specs.Work.{areaIf, named, allRead, gets, countsIn, noCounts}
+use Rattle.work.specs.Work.{areaIf, named, allRead, gets, noCounts}
 use Rattle.outcome.specs.declared.Done.{Done}
 use Rattle.outcome.specs.Outcome.{checked}
 use Rattle.plan.specs.declared.Job.{Job}
