@@ -246,7 +246,7 @@ fn row_of(words: &[[u8; 8]]) -> World {
     on(&four(), M3 + 1, words).storing(DATA, &[0xFF; 5])
 }
 
-// The row ends at the second index, before the search at this word.
+// The row ends at this word: its search meets the second index.
 fn row_ends(tally: &mut Tally, what: &str, world: &World, at: usize, count: u16) {
     ends(tally, what, world, status(at, 0x0E, 0, count), checked(SECOND_INDEX, M3 + 1));
 }
@@ -255,7 +255,7 @@ fn row_ends(tally: &mut Tally, what: &str, world: &World, at: usize, count: u16)
 pub fn index_tally(tally: &mut Tally) {
     let id = by_id_in_row();
     tally_of_mixed_rows(tally);
-    // A satisfied search does not end the row; any other command does.
+    // A satisfied search does not end the row; other commands do.
     let found = row_of(&[id, no_op(0), id, id, id, id]).storing(DATA, &R0.id());
     row_ends(tally, "satisfied at R0 behind the index", &found, AT + 40, 5);
     tally_ended_by_others(tally);
@@ -279,7 +279,7 @@ fn tally_of_mixed_rows(tally: &mut Tally) {
     row_ends(tally, "Search Key, then Search ID", &row_of(&[key, key, key, id, id]), AT + 24, 5);
 }
 
-// Any command but a search and a TIC ends the row: with it between, the row begins anew, and a whole round is free.
+// Any command but Search ID, Search Key and TIC: with it between, the row begins anew, and a whole round is free.
 fn tally_ended_by_others(tally: &mut Tally) {
     for (name, between) in [
         ("No-op", word(0x03, 0, CHAIN, 1)),
