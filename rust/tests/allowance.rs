@@ -220,16 +220,8 @@ fn random_write(dice: &mut Dice, before: u8) -> [u8; 8] {
     }
 }
 
-fn random_write_world(dice: &mut Dice) -> World {
-    let (before, selection) = dice.of(&[
-        (0x00, Selection::None),
-        (0x19, Selection::None),
-        (0x39, Selection::None),
-        (0x31, Selection::R0),
-        (0x15, Selection::R0),
-        (0x1D, marker(M1)),
-        (0x29, marker(M1)),
-    ]);
+// Seven words or eight, of which each goes by the one before.
+fn random_writes(dice: &mut Dice, before: u8) -> Vec<[u8; 8]> {
     let mut words = Vec::new();
     let mut last = before;
     while words.len() < WORDS {
@@ -241,9 +233,11 @@ fn random_write_world(dice: &mut Dice) -> World {
             words.push(tic((AT + 8 * words.len() - 8) as u32));
         }
     }
-    let mut world = world(&words);
-    world.shape = Shape { cylinders: 1, heads: 2 };
-    world.cells = [four(), filled_cells(TRACK_CELLS)].concat();
+    words
+}
+
+// The bytes that the searches and the writes are for.
+fn store_sent(dice: &mut Dice, world: &mut World) {
     for (k, bytes) in [R0.id(), R1.id(), R2.id(), R1.key.to_vec(), HOME[1..].to_vec()].iter().enumerate() {
         world.store(DATA + 8 * k, bytes);
     }
@@ -252,6 +246,22 @@ fn random_write_world(dice: &mut Dice) -> World {
     world.store(416, &[0, 1, 0, 1, 8, 3, 0, 0, 7, 8, 9, 4, 0, 0, 0, 0]);
     world.store(432, &[0, 1, 0, 1, 7, 2, dice.of(&[0x00, 0x0F, 0xFF]), 0xF0]);
     world.store(448, &[dice.of(&[0xC0, 0xC0, 0x00, 0x80])]);
+}
+
+fn random_write_world(dice: &mut Dice) -> World {
+    let (before, selection) = dice.of(&[
+        (0x00, Selection::None),
+        (0x19, Selection::None),
+        (0x39, Selection::None),
+        (0x31, Selection::R0),
+        (0x15, Selection::R0),
+        (0x1D, marker(M1)),
+        (0x29, marker(M1)),
+    ]);
+    let mut world = world(&random_writes(dice, before));
+    world.shape = Shape { cylinders: 1, heads: 2 };
+    world.cells = [four(), filled_cells(TRACK_CELLS)].concat();
+    store_sent(dice, &mut world);
     if dice.below(4) == 0 {
         let cell = dice.of(&[3, 9, 20, 31, 42, 50, 57, 70]);
         world.cells[cell] = dice.of(&[0, 0x01FF]);

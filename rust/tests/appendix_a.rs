@@ -244,94 +244,113 @@ pub fn home_list(tally: &mut Tally) {
     }
 }
 
+// Where the second list lays the markers of its three records.
+const M1: u16 = 36;
+const M2: u16 = 1092;
+const M3: u16 = 1156;
+
+const AT_1: Selection = Selection::Marker(M1);
+const AT_2: Selection = Selection::Marker(M2);
+const AT_3: Selection = Selection::Marker(M3);
+
+const RECORD_AFTER: [After; 21] = [
+    (0x2F8, 0, Selection::None, 0),
+    (0x300, 0, Selection::None, 0),
+    (0x310, 1, Selection::None, 0),
+    // Search HA and then Search ID for R0: the place is 1.
+    (0x320, 7, Selection::R0, 0),
+    (0x328, M1 + 1, AT_1, 0),
+    (0x330, M2 + 1, AT_2, 0),
+    (0x338, M3 + 1, AT_3, 0),
+    // The search for R1 passes the index and takes R0 first.
+    (0x340, 7, Selection::R0, 1),
+    (0x338, 7, Selection::R0, 1),
+    (0x348, M1 + 1, AT_1, 1),
+    (0x350, M1 + 1, Selection::None, 0),
+    (0x358, M2 + 1, Selection::None, 0),
+    (0x360, M3 + 1, Selection::None, 0),
+    // R4: R0 behind the index, the three records, and the index again.
+    (0x368, 7, Selection::R0, 1),
+    (0x360, 7, Selection::R0, 1),
+    (0x368, M1 + 1, AT_1, 1),
+    (0x360, M1 + 1, AT_1, 1),
+    (0x368, M2 + 1, AT_2, 1),
+    (0x360, M2 + 1, AT_2, 1),
+    (0x368, M3 + 1, AT_3, 1),
+    (0x360, M3 + 1, AT_3, 1),
+];
+
+// The words of the second list that it is cut short behind, and the unit status of each.
+const RECORD_UNITS: [(usize, u8); 12] = [
+    (0, 0x0C),
+    (1, 0x0C),
+    (2, 0x4C),
+    (4, 0x4C),
+    (6, 0x0C),
+    (7, 0x0C),
+    (8, 0x0C),
+    // searches that are not satisfied yet
+    (9, 0x0C),
+    (11, 0x0C),
+    (12, 0x0C),
+    (13, 0x0C),
+    (14, 0x0C),
+];
+
 pub fn record_list(tally: &mut Tally) {
     let begun = formatted_world();
+    let world = records_written(tally, &begun);
+    cut_short(tally, &begun, WR3REC, &RECORD_LIST, &RECORD_UNITS);
+    records_written_again(tally, &world);
+    // The exit: another home address, or another R0.
+    record_list_exit(tally, &begun, "home address", 4, 0x06);
+    record_list_exit(tally, &begun, "R0", 11, 0x09);
+}
+
+// The whole list: every byte and every cell. What it leaves.
+fn records_written(tally: &mut Tally, begun: &World) -> World {
     let sheet = filled(&begun.storage);
-    let (m1, m2, m3) = (36, 1092, 1156);
-    let at = |cell: u16| Selection::Marker(cell);
-    let none = Selection::None;
-    tally.same("the markers", [1, 2, 3].map(|i| sheet.spot(i)), [at(m1), at(m2), at(m3)]);
-    let after = [
-        (0x2F8, 0, none, 0),
-        (0x300, 0, none, 0),
-        (0x310, 1, none, 0),
-        // Search HA and then Search ID for R0: the place is 1.
-        (0x320, 7, Selection::R0, 0),
-        (0x328, m1 + 1, at(m1), 0),
-        (0x330, m2 + 1, at(m2), 0),
-        (0x338, m3 + 1, at(m3), 0),
-        // The search for R1 passes the index and takes R0 first.
-        (0x340, 7, Selection::R0, 1),
-        (0x338, 7, Selection::R0, 1),
-        (0x348, m1 + 1, at(m1), 1),
-        (0x350, m1 + 1, none, 0),
-        (0x358, m2 + 1, none, 0),
-        (0x360, m3 + 1, none, 0),
-        // R4: R0 behind the index, the three records, and the index again.
-        (0x368, 7, Selection::R0, 1),
-        (0x360, 7, Selection::R0, 1),
-        (0x368, m1 + 1, at(m1), 1),
-        (0x360, m1 + 1, at(m1), 1),
-        (0x368, m2 + 1, at(m2), 1),
-        (0x360, m2 + 1, at(m2), 1),
-        (0x368, m3 + 1, at(m3), 1),
-        (0x360, m3 + 1, at(m3), 1),
-    ];
+    tally.same("the markers", [1, 2, 3].map(|i| sheet.spot(i)), [AT_1, AT_2, AT_3]);
     let mut world = begun.clone();
-    word_by_word(tally, "WR3REC", &mut world, WR3REC, &after);
+    word_by_word(tally, "WR3REC", &mut world, WR3REC, &RECORD_AFTER);
     tally.same("No Record Found", world.status_word(), status_bytes(0, status(0x360, 0x0E, 0, 5)));
     tally.same("its sense", world.view().sense(), [0x00, 0x08]);
-    tally.same("its place", world.view().place(), m3 + 1);
+    tally.same("its place", world.view().place(), M3 + 1);
     let mut should = begun.clone();
     should.cells[TRACK * TRACK_CELLS..][..TRACK_CELLS].copy_from_slice(&sheet.cells());
     for (to, from, n) in [(REC1KD, REC1 + 8, 1040), (REC2CD, REC2, 56), (REC3CD, REC3, 536)] {
-        let bytes = begun.storage[from..from + n].to_vec();
-        should.store(to, &bytes);
+        should.store(to, &begun.storage[from..from + n]);
     }
     should.store(72, &(WR3REC as u32).to_be_bytes());
     should.store(64, &status_bytes(0, status(0x360, 0x0E, 0, 5)));
     tally.holds("every byte", world.storage == should.storage);
     tally.holds("every cell", world.cells == should.cells);
+    world
+}
 
-    let units = [
-        (0, 0x0C),
-        (1, 0x0C),
-        (2, 0x4C),
-        (4, 0x4C),
-        (6, 0x0C),
-        (7, 0x0C),
-        (8, 0x0C),
-        // searches that are not satisfied yet
-        (9, 0x0C),
-        (11, 0x0C),
-        (12, 0x0C),
-        (13, 0x0C),
-        (14, 0x0C),
-    ];
-    cut_short(tally, &begun, WR3REC, &RECORD_LIST, &units);
-
-    // A second run finds what the first wrote and writes it over: the same track.
+// A second run finds what the first wrote and writes it over: the same track.
+fn records_written_again(tally: &mut Tally, world: &World) {
     let mut again = world.clone();
     tally.same("again", again.excp(WR3REC), Answer::NotEnded);
     tally.same("again", again.go(100), Answer::Ended);
     tally.holds("again the same", again.storage == world.storage && again.cells == world.cells);
+}
 
-    // The exit: another home address, or another R0. Its No-op of count 0 is a program check here.
-    for (what, cell, value) in [("home address", 4, 0x06), ("R0", 11, 0x09)] {
-        for (count, unit, channel, left) in [(0, 0x00, 0x20, 0), (1, 0x0C, 0x00, 1)] {
-            let mut sheet = formatted(3, 7);
-            if cell < 7 {
-                sheet.home[cell] = value;
-            } else {
-                sheet.records[0].count[cell - 7] = value;
-            }
-            let mut world = begun.clone().storing(NORCFD, &ccw((0x03, NORCFD, 0, count)));
-            world.cells[TRACK * TRACK_CELLS..][..TRACK_CELLS].copy_from_slice(&sheet.cells());
-            let cells = world.cells.clone();
-            tally.same(what, world.excp(WR3REC), Answer::NotEnded);
-            tally.same(what, world.go(100), Answer::Ended);
-            tally.same(what, world.status_word(), status_bytes(0, status(NORCFD, unit, channel, left)));
-            tally.holds(&format!("another {what}: no cell changes"), world.cells == cells);
+// The exit, for a track with another byte in this cell: its No-op of count 0 is a program check here.
+fn record_list_exit(tally: &mut Tally, begun: &World, what: &str, cell: usize, value: u8) {
+    for (count, unit, channel, left) in [(0, 0x00, 0x20, 0), (1, 0x0C, 0x00, 1)] {
+        let mut sheet = formatted(3, 7);
+        if cell < 7 {
+            sheet.home[cell] = value;
+        } else {
+            sheet.records[0].count[cell - 7] = value;
         }
+        let mut world = begun.clone().storing(NORCFD, &ccw((0x03, NORCFD, 0, count)));
+        world.cells[TRACK * TRACK_CELLS..][..TRACK_CELLS].copy_from_slice(&sheet.cells());
+        let cells = world.cells.clone();
+        tally.same(what, world.excp(WR3REC), Answer::NotEnded);
+        tally.same(what, world.go(100), Answer::Ended);
+        tally.same(what, world.status_word(), status_bytes(0, status(NORCFD, unit, channel, left)));
+        tally.holds(&format!("another {what}: no cell changes"), world.cells == cells);
     }
 }

@@ -80,8 +80,9 @@ fn to<'a>(cylinder: u16, head: u16) -> Left<'a> {
 
 const STAYS: Left = Left { sense: [0x81, 0x00], stands: STOOD, stored: &[] };
 
-pub fn seeks(tally: &mut Tally) {
-    for (code, data, left) in [
+// A seek's code, the bytes it is for, and what it leaves.
+fn seek_cases() -> [(u8, [u8; 6], Left<'static>); 20] {
+    [
         (0x07, [0, 0, 0, 0, 0, 0], to(0, 0)),
         (0x07, [0, 0, 0, 2, 0, 1], to(2, 1)),
         (0x07, [0, 0, 0, 1, 0, 1], to(1, 1)),
@@ -102,22 +103,30 @@ pub fn seeks(tally: &mut Tally) {
         (0x1B, [255, 255, 255, 255, 0, 1], to(1, 1)),
         (0x1B, [0, 0, 0, 0, 0, 2], STAYS),
         (0x1B, [0, 0, 0, 0, 1, 0], STAYS),
-    ] {
+    ]
+}
+
+// How a seek of six bytes or more ends, or the No-op behind it.
+fn seek_status(bad: bool, flags: u8, count: u16) -> Status {
+    let long = count - 6;
+    if bad {
+        status(AT, 0x0E, 0, long)
+    } else if flags & LONG_OR_SHORT == 0 && long > 0 {
+        status(AT, 0x0C, 0x40, long)
+    } else if flags & CHAIN == 0 {
+        status(AT, 0x0C, 0, long)
+    } else {
+        status(AT + 8, 0x0C, 0, 1)
+    }
+}
+
+pub fn seeks(tally: &mut Tally) {
+    for (code, data, left) in seek_cases() {
         let bad = left.sense != [0, 0];
         for (flags, count) in [(0, 6), (CHAIN, 6), (0, 7), (CHAIN, 9), (BOTH, 9)] {
-            let long = count - 6;
-            let wanted = if bad {
-                status(AT, 0x0E, 0, long)
-            } else if flags & LONG_OR_SHORT == 0 && long > 0 {
-                status(AT, 0x0C, 0x40, long)
-            } else if flags & CHAIN == 0 {
-                status(AT, 0x0C, 0, long)
-            } else {
-                status(AT + 8, 0x0C, 0, 1)
-            };
             let what = format!("{code:02X} to {data:?}, flags {flags:02X}, count {count}");
             let world = seeking(code, flags, count, &data);
-            ends(tally, &what, &world, wanted, left);
+            ends(tally, &what, &world, seek_status(bad, flags, count), left);
         }
     }
 }
@@ -250,11 +259,29 @@ fn spacing(before: u8, place: u16, markers: &[usize]) -> World {
         .marking(5, markers)
 }
 
+// The markers of the track that is spaced over.
+const SPACED: [usize; 3] = [3, 40, 90];
+
+// How a Space Record that goes well ends, and where it leaves the head.
+fn spaced() -> Status {
+    status(AT, 0x0C, 0, 9)
+}
+
+fn spaced_to<'a>(place: u16) -> Left<'a> {
+    Left { stands: (2, 1, place), ..NOTHING }
+}
+
 pub fn space_record(tally: &mut Tally) {
-    let markers = [3, 40, 90];
+    space_record_after_each_code(tally);
+    space_record_from_each_place(tally);
+    space_record_without_a_marker(tally);
+    space_record_in_chains(tally);
+}
+
+fn space_record_after_each_code(tally: &mut Tally) {
     for before in 0..=255 {
         // R0 is selected, so that no code before is refused.
-        let world = spacing(before, 41, &markers).holding(10, &[1]);
+        let world = spacing(before, 41, &SPACED).holding(10, &[1]);
         let what = format!("Space Record after {before:02X}");
         let (unit, sense, place) = if !SEARCHES_AND_READS.contains(&before) {
             (0x0E, [0x80, 0x10], 41)
@@ -266,37 +293,43 @@ pub fn space_record(tally: &mut Tally) {
         let left = Left { sense, stands: (2, 1, place), stored: &[] };
         ends(tally, &what, &world, status(AT, unit, 0, 9), left);
     }
-    let to = |place| Left { stands: (2, 1, place), ..NOTHING };
-    let wanted = status(AT, 0x0C, 0, 9);
+}
+
+fn space_record_from_each_place(tally: &mut Tally) {
     for (from, place) in
         [(0, 41), (3, 41), (7, 41), (39, 41), (40, 41), (41, 91), (90, 91), (91, 41), (4095, 41), (4096, 41)]
     {
         let what = format!("Space Record from {from}");
-        let world = spacing(0x06, from, &markers);
-        ends(tally, &what, &world, wanted, to(place));
+        let world = spacing(0x06, from, &SPACED);
+        ends(tally, &what, &world, spaced(), spaced_to(place));
     }
     for (from, marker, place) in
         [(0, 7, 8), (7, 7, 8), (8, 7, 8), (7, 4095, 4096), (4096, 4095, 4096), (0, 6, 7), (4096, 6, 7)]
     {
         let what = format!("Space Record from {from}, a marker in {marker}");
         let world = spacing(0x1E, from, &[marker]);
-        ends(tally, &what, &world, wanted, to(place));
+        ends(tally, &what, &world, spaced(), spaced_to(place));
     }
-    // Markers of other tracks and cells that are nearly one do not count.
+}
+
+// Markers of other tracks and cells that are nearly one do not count.
+fn space_record_without_a_marker(tally: &mut Tally) {
     let mut world = spacing(0x0E, 8, &[]).marking(0, &[40]).marking(4, &[40]);
     for (i, cell) in [0, 2, 511, 513, 768].into_iter().enumerate() {
         world.cells[5 * TRACK_CELLS + 50 + i] = cell;
     }
-    ends(tally, "no marker", &world, wanted, to(7));
+    ends(tally, "no marker", &world, spaced(), spaced_to(7));
+}
 
+fn space_record_in_chains(tally: &mut Tally) {
     let world =
-        spacing(0x06, 8, &markers).storing(AT, &word(0x0F, 0, CHAIN, 9)).storing(AT + 8, &word(0x0F, 0, CHAIN, 9));
-    let left = Left { sense: [0x80, 0x10], ..to(41) };
+        spacing(0x06, 8, &SPACED).storing(AT, &word(0x0F, 0, CHAIN, 9)).storing(AT + 8, &word(0x0F, 0, CHAIN, 9));
+    let left = Left { sense: [0x80, 0x10], ..spaced_to(41) };
     let second = status(AT + 8, 0x0E, 0, 9);
     ends(tally, "Space Record twice", &world, second, left);
-    let world = spacing(0x06, 8, &markers).storing(AT, &tic(256)).storing(256, &word(0x0F, 0, 0, 9));
+    let world = spacing(0x06, 8, &SPACED).storing(AT, &tic(256)).storing(256, &word(0x0F, 0, 0, 9));
     let wanted = status(256, 0x0C, 0, 9);
-    ends(tally, "Space Record after a TIC", &world, wanted, to(41));
+    ends(tally, "Space Record after a TIC", &world, wanted, spaced_to(41));
 }
 
 const CONTROL: [u8; 7] = [0x03, 0x04, 0x07, 0x0B, 0x1B, 0x1F, 0x0F];
@@ -372,16 +405,32 @@ pub fn transfer_in_channel(tally: &mut Tally) {
     tally.worlds("a No-op keeps the mask alone", &after, &should);
 }
 
+// A chain whose second word is this one, and what a program check there leaves.
+fn second_word(second: [u8; 8]) -> World {
+    world(&[no_op(CHAIN), second]).standing(1, 1, 12).holding(4, &[0x00, 0x40])
+}
+
+const KEPT: Left = Left { sense: [0x00, 0x40], stands: (1, 1, 12), stored: &[] };
+
 pub fn program_checks(tally: &mut Tally) {
-    let left = Left { stands: (1, 1, 12), ..sensing(0x00, 0x40) };
-    let second = |bad| world(&[no_op(CHAIN), bad]).standing(1, 1, 12).holding(4, &[0x00, 0x40]);
+    bad_flags(tally);
+    bad_counts_and_areas(tally);
+    bad_codes(tally);
+    area_to_the_end(tally);
+    bad_next_words(tally);
+}
+
+fn bad_flags(tally: &mut Tally) {
     for flags in 0..=255 {
         if !matches!(flags, 0x00 | 0x20 | 0x40 | 0x60) {
             let what = format!("flags {flags:02X}");
-            let world = second(word(0x04, DATA as u32, flags, 6));
-            ends(tally, &what, &world, program_check(AT + 8), left);
+            let world = second_word(word(0x04, DATA as u32, flags, 6));
+            ends(tally, &what, &world, program_check(AT + 8), KEPT);
         }
     }
+}
+
+fn bad_counts_and_areas(tally: &mut Tally) {
     for (what, bad) in [
         ("count 0", word(0x04, DATA as u32, 0, 0)),
         ("count 0 of a No-op", word(0x03, 0, 0, 0)),
@@ -393,16 +442,26 @@ pub fn program_checks(tally: &mut Tally) {
         ("an unknown code of count 0", word(0x17, 0, 0, 0)),
         ("all of them", word(0x00, 16_777_215, 0xFF, 0)),
     ] {
-        ends(tally, what, &second(bad), program_check(AT + 8), left);
+        ends(tally, what, &second_word(bad), program_check(AT + 8), KEPT);
     }
+}
+
+fn bad_codes(tally: &mut Tally) {
     for high in 0..=15 {
         let what = format!("code {high:X}0");
-        let world = second(word(high << 4, 0, 0, 1));
-        ends(tally, &what, &world, program_check(AT + 8), left);
+        let world = second_word(word(high << 4, 0, 0, 1));
+        ends(tally, &what, &world, program_check(AT + 8), KEPT);
     }
+}
+
+// The other side of the limit: this is no program check.
+fn area_to_the_end(tally: &mut Tally) {
     let stored = [(506, &[0, 0x40, 0, 0, 0, 0][..])];
-    let exact = Left { stored: &stored, ..left };
-    ends(tally, "area to the end", &second(word(0x04, 506, 0, 6)), status(AT + 8, 0x0C, 0, 0), exact);
+    let exact = Left { stored: &stored, ..KEPT };
+    ends(tally, "area to the end", &second_word(word(0x04, 506, 0, 6)), status(AT + 8, 0x0C, 0, 0), exact);
+}
+
+fn bad_next_words(tally: &mut Tally) {
     for len in [AT + 8, AT + 9, AT + 15] {
         let mut world = world(&[no_op(CHAIN)]);
         world.storage.truncate(len);

@@ -2,6 +2,7 @@
 use crate::lent::*;
 use crate::track::*;
 use poplar::{Answer, Selection, TRACK_CELLS};
+use std::ops::Range;
 
 const READS: [u8; 6] = [0x1A, 0x16, 0x12, 0x06, 0x0E, 0x1E];
 const RECORD_READS: [u8; 4] = [0x12, 0x06, 0x0E, 0x1E];
@@ -155,72 +156,102 @@ pub fn read_selected(tally: &mut Tally) {
     }
 }
 
+// Where the nth read of a chain stores, and where the bytes of its search lie.
+fn nth(n: usize) -> usize {
+    DATA + 32 * n
+}
+
+const SENT: usize = 480;
+
+fn nth_read(n: usize, code: u8, flags: u8, count: u16) -> [u8; 8] {
+    word(code, nth(n) as u32, flags, count)
+}
+
+fn search_for(code: u8, bytes: &[u8]) -> [u8; 8] {
+    word(code, SENT as u32, CHAIN, bytes.len() as u16)
+}
+
+// The chain goes well up to this word.
+fn chain_ends(tally: &mut Tally, what: &str, world: &World, last: usize, left: Left) {
+    ends(tally, what, world, status(AT + 8 * last, 0x0C, 0, 0), left);
+}
+
 // Chains of two and three commands, from the start: what the first leaves selected, the second uses.
 pub fn read_chains(tally: &mut Tally) {
-    let at = |n: usize| DATA + 32 * n;
-    let sent = 480;
-    let search = |code, bytes: &[u8]| word(code, sent, CHAIN, bytes.len() as u16);
-    let reads = |code, n, count| word(code, at(n) as u32, CHAIN, count);
-    let last = |code, n, count| word(code, at(n) as u32, 0, count);
-    let (id, key) = (R1.id(), R1.key);
-    let chain = |words: &[[u8; 8]], from, bytes: &[u8]| on(&four(), from, words).storing(sent as usize, bytes);
-    let ok = |n: usize| status(AT + 8 * n, 0x0C, 0, 0);
+    read_after_search(tally);
+    read_after_read_count(tally);
+    read_in_the_next_chain(tally);
+    read_the_whole_track(tally);
+}
 
-    let world = chain(&[search(0x31, &id), no_op(0), last(0x06, 0, 6)], 7, &id);
-    ends(tally, "Search ID, Read Data", &world, ok(2), stored(M1 + 1, &[(at(0), R1.data)]));
-    let world = chain(&[search(0x31, &id), no_op(0), last(0x0E, 0, 10)], 7, &id);
-    ends(tally, "Search ID, Read KD", &world, ok(2), stored(M1 + 1, &[(at(0), &R1.key_and_data())]));
-    let world = chain(&[search(0x31, &id), no_op(0), last(0x1E, 0, 13)], 7, &id);
-    ends(tally, "Search ID, Read CKD of the next", &world, ok(2), stored(M2 + 1, &[(at(0), &R2.all())]));
-    let world = chain(&[search(0x31, &id), no_op(0), last(0x12, 0, 8)], 7, &id);
-    ends(tally, "Search ID, Read Count of the next", &world, ok(2), stored(M2 + 1, &[(at(0), &R2.count())]));
-    let world = chain(&[search(0x29, key), no_op(0), last(0x06, 0, 6)], 7, key);
-    ends(tally, "Search Key, Read Data", &world, ok(2), stored(M1 + 1, &[(at(0), R1.data)]));
-    let world = chain(&[search(0x29, key), no_op(0), last(0x0E, 0, 5)], 7, key);
-    ends(tally, "Search Key, Read KD of the next", &world, ok(2), stored(M2 + 1, &[(at(0), R2.data)]));
+fn read_after_search(tally: &mut Tally) {
+    let (id, key) = (R1.id(), R1.key);
+    for (what, by, sent, code, place, bytes) in [
+        ("Search ID, Read Data", 0x31, &id[..], 0x06, M1 + 1, R1.data.to_vec()),
+        ("Search ID, Read KD", 0x31, &id, 0x0E, M1 + 1, R1.key_and_data()),
+        ("Search ID, Read CKD of the next", 0x31, &id, 0x1E, M2 + 1, R2.all()),
+        ("Search ID, Read Count of the next", 0x31, &id, 0x12, M2 + 1, R2.count()),
+        ("Search Key, Read Data", 0x29, key, 0x06, M1 + 1, R1.data.to_vec()),
+        ("Search Key, Read KD of the next", 0x29, key, 0x0E, M2 + 1, R2.data.to_vec()),
+    ] {
+        let words = [search_for(by, sent), no_op(0), nth_read(0, code, 0, bytes.len() as u16)];
+        let world = on(&four(), 7, &words).storing(SENT, sent);
+        chain_ends(tally, what, &world, 2, stored(place, &[(nth(0), &bytes)]));
+    }
     // Unsatisfied searches select too.
-    let world = chain(&[search(0x31, &id), last(0x06, 0, 8)], 0, &id);
-    ends(tally, "Search ID not satisfied, Read Data of R0", &world, ok(1), stored(7, &[(at(0), R0.data)]));
+    let world = on(&four(), 0, &[search_for(0x31, &id), nth_read(0, 0x06, 0, 8)]).storing(SENT, &id);
+    chain_ends(tally, "Search ID not satisfied, Read Data of R0", &world, 1, stored(7, &[(nth(0), R0.data)]));
+}
+
+fn read_after_read_count(tally: &mut Tally) {
+    let chain = |words: &[[u8; 8]], sent: &[u8]| on(&four(), 7, words).storing(SENT, sent);
+    let (count, key) = (R1.count(), R1.key);
+    let first = nth_read(0, 0x12, CHAIN, 8);
     // With a TIC between it is the very next command, with a No-op it is not.
-    let world = chain(&[reads(0x12, 0, 8), tic(AT as u32 + 16), last(0x06, 1, 6)], 7, &[]);
-    let both = [(at(0), &R1.count()[..]), (at(1), R1.data)];
-    ends(tally, "Read Count, TIC, Read Data", &world, ok(2), stored(M1 + 1, &both));
-    let world = chain(&[reads(0x12, 0, 8), no_op(CHAIN), last(0x06, 1, 5)], 7, &[]);
-    let both = [(at(0), &R1.count()[..]), (at(1), R2.data)];
-    ends(tally, "Read Count, No-op, Read Data", &world, ok(2), stored(M2 + 1, &both));
+    let world = chain(&[first, tic(AT as u32 + 16), nth_read(1, 0x06, 0, 6)], &[]);
+    let both = [(nth(0), &count[..]), (nth(1), R1.data)];
+    chain_ends(tally, "Read Count, TIC, Read Data", &world, 2, stored(M1 + 1, &both));
+    let world = chain(&[first, no_op(CHAIN), nth_read(1, 0x06, 0, 5)], &[]);
+    let both = [(nth(0), &count[..]), (nth(1), R2.data)];
+    chain_ends(tally, "Read Count, No-op, Read Data", &world, 2, stored(M2 + 1, &both));
     // A selection serves once: the second Read Data takes the next record.
-    let world = chain(&[reads(0x12, 0, 8), reads(0x06, 1, 6), last(0x06, 2, 5)], 7, &[]);
-    let all = [(at(0), &R1.count()[..]), (at(1), R1.data), (at(2), R2.data)];
-    ends(tally, "Read Count, Read Data twice", &world, ok(2), stored(M2 + 1, &all));
+    let world = chain(&[first, nth_read(1, 0x06, CHAIN, 6), nth_read(2, 0x06, 0, 5)], &[]);
+    let all = [(nth(0), &count[..]), (nth(1), R1.data), (nth(2), R2.data)];
+    chain_ends(tally, "Read Count, Read Data twice", &world, 2, stored(M2 + 1, &all));
     // Read Count, Search Key and Read Data are of one record.
-    let world = chain(&[reads(0x12, 0, 8), search(0x29, key), no_op(0), last(0x06, 1, 6)], 7, key);
-    let both = [(at(0), &R1.count()[..]), (at(1), R1.data)];
-    ends(tally, "Read Count, Search Key, Read Data", &world, ok(3), stored(M1 + 1, &both));
-    // Chains do not hand a selection on, but the place.
-    let mut world = chain(&[word(0x12, at(0) as u32, 0, 8)], 7, &[]);
+    let world = chain(&[first, search_for(0x29, key), no_op(0), nth_read(1, 0x06, 0, 6)], key);
+    let both = [(nth(0), &count[..]), (nth(1), R1.data)];
+    chain_ends(tally, "Read Count, Search Key, Read Data", &world, 3, stored(M1 + 1, &both));
+}
+
+// Chains do not hand a selection on, but the place.
+fn read_in_the_next_chain(tally: &mut Tally) {
+    let mut world = on(&four(), 7, &[nth_read(0, 0x12, 0, 8)]);
     tally.same("the first chain", world.start(), Answer::NotEnded);
     tally.same("the first chain", world.go(1), Answer::Ended);
-    let world = world.storing(AT, &last(0x06, 1, 5));
-    ends(tally, "the next chain", &world, ok(0), stored(M2 + 1, &[(at(1), R2.data)]));
-    // Home address, R0, and all three records in one chain; then round again.
+    let world = world.storing(AT, &nth_read(1, 0x06, 0, 5));
+    chain_ends(tally, "the next chain", &world, 0, stored(M2 + 1, &[(nth(1), R2.data)]));
+}
+
+// Home address, R0, and all three records in one chain; then round again.
+fn read_the_whole_track(tally: &mut Tally) {
     let words = [
-        reads(0x1A, 0, 5),
-        reads(0x16, 1, 16),
-        reads(0x1E, 2, 18),
-        reads(0x1E, 3, 13),
-        reads(0x12, 4, 8),
-        last(0x1E, 5, 18),
+        nth_read(0, 0x1A, CHAIN, 5),
+        nth_read(1, 0x16, CHAIN, 16),
+        nth_read(2, 0x1E, CHAIN, 18),
+        nth_read(3, 0x1E, CHAIN, 13),
+        nth_read(4, 0x12, CHAIN, 8),
+        nth_read(5, 0x1E, 0, 18),
     ];
-    let world = chain(&words, 4000, &[]);
     let all = [
-        (at(0), &HOME[..]),
-        (at(1), &R0.all()),
-        (at(2), &R1.all()),
-        (at(3), &R2.all()),
-        (at(4), &R3.count()),
-        (at(5), &R1.all()),
+        (nth(0), &HOME[..]),
+        (nth(1), &R0.all()),
+        (nth(2), &R1.all()),
+        (nth(3), &R2.all()),
+        (nth(4), &R3.count()),
+        (nth(5), &R1.all()),
     ];
-    ends(tally, "the whole track", &world, ok(5), stored(M1 + 1, &all));
+    chain_ends(tally, "the whole track", &on(&four(), 4000, &words), 5, stored(M1 + 1, &all));
 }
 
 // Without data: a Unit Exception, with the count and the key moved where they are named; and 40 where the count is wrong.
@@ -284,101 +315,124 @@ pub fn read_no_marker(tally: &mut Tally) {
     }
 }
 
-// Each cell of each area that a read names, made a gap, another byte and no byte: nothing moves, and the place stays. Then
-// each area that it does not name: it is not looked at.
+// The areas up to R2's, and the sense of each that cannot be read.
+const AREAS: [(Range<usize>, [u8; 2]); 8] = [
+    (HOME_AREA, UNREADABLE),
+    (COUNT_0, UNREADABLE_COUNT),
+    (DATA_0, UNREADABLE),
+    (COUNT_1, UNREADABLE_COUNT),
+    (KEY_1, UNREADABLE),
+    (DATA_1, UNREADABLE),
+    (COUNT_2, UNREADABLE_COUNT),
+    (DATA_2, UNREADABLE),
+];
+
+// The areas that a read from the beginning of the track names, its record, and the place behind.
+fn named(code: u8) -> (&'static [Range<usize>], Record<'static>, usize) {
+    match code {
+        0x1A => (&[HOME_AREA], R0, 1),
+        0x16 => (&[COUNT_0, DATA_0], R0, 7),
+        0x12 => (&[COUNT_1], R1, M1 + 1),
+        0x06 => (&[COUNT_1, DATA_1], R1, M1 + 1),
+        _ => (&[COUNT_1, KEY_1, DATA_1], R1, M1 + 1),
+    }
+}
+
 pub fn read_damage(tally: &mut Tally) {
-    let track = four();
-    let areas = [
-        (HOME_AREA, UNREADABLE),
-        (COUNT_0, UNREADABLE_COUNT),
-        (DATA_0, UNREADABLE),
-        (COUNT_1, UNREADABLE_COUNT),
-        (KEY_1, UNREADABLE),
-        (DATA_1, UNREADABLE),
-        (COUNT_2, UNREADABLE_COUNT),
-        (DATA_2, UNREADABLE),
-    ];
     for code in READS {
-        let names: &[std::ops::Range<usize>] = match code {
-            0x1A => &[HOME_AREA],
-            0x16 => &[COUNT_0, DATA_0],
-            0x12 => &[COUNT_1],
-            0x06 => &[COUNT_1, DATA_1],
-            _ => &[COUNT_1, KEY_1, DATA_1],
-        };
-        let (record, place) = match code {
-            0x1A => (R0, 1),
-            0x16 => (R0, 7),
-            _ => (R1, M1 + 1),
-        };
-        let bytes = moves(code, &record);
+        let (_, record, _) = named(code);
         // A count of one byte is enough for every area to be checked.
-        for count in [1, 8, bytes.len()] {
-            for (area, sense) in &areas {
-                for cell in area.clone() {
-                    for value in [0, track[cell] ^ 1, track[cell] ^ 0x40, track[cell] + 0x100, 0xFFFF] {
-                        // A marker in front of R1's is another record.
-                        if value == MARKER && cell < M1 && cell >= 7 && code != 0x16 {
-                            continue;
-                        }
-                        let world = on(&track, 5, &[read(code, LONG_OR_SHORT, count)]).recording(cell, value);
-                        let what = format!("{code:02X} of {count} bytes with {value:04X} in cell {cell}");
-                        if names.contains(area) {
-                            ends(tally, &what, &world, status(AT, 0x0E, 0, count as u16), checked(*sense, 5));
-                        } else {
-                            let moved = bytes.len().min(count);
-                            let wanted = status(AT, 0x0C, 0, (count - moved) as u16);
-                            ends(tally, &what, &world, wanted, stored(place, &[(DATA, &bytes[..moved])]));
-                        }
-                    }
-                }
+        for count in [1, 8, moves(code, &record).len()] {
+            for (area, sense) in AREAS {
+                read_with_damage(tally, code, count, area, sense);
             }
         }
     }
+    read_damaged_count(tally);
+    read_damage_in_a_chain(tally);
+}
+
+// Each cell of an area, made a gap, another byte and no byte. If the read names it, nothing moves, and the place stays; if
+// not, it is not looked at.
+fn read_with_damage(tally: &mut Tally, code: u8, count: usize, area: Range<usize>, sense: [u8; 2]) {
+    let track = four();
+    let (names, record, place) = named(code);
+    let bytes = moves(code, &record);
+    let moved = bytes.len().min(count);
+    for cell in area.clone() {
+        for value in [0, track[cell] ^ 1, track[cell] ^ 0x40, track[cell] + 0x100, 0xFFFF] {
+            // A marker in front of R1's is another record.
+            if value == MARKER && cell < M1 && cell >= 7 && code != 0x16 {
+                continue;
+            }
+            let world = on(&track, 5, &[read(code, LONG_OR_SHORT, count)]).recording(cell, value);
+            let what = format!("{code:02X} of {count} bytes with {value:04X} in cell {cell}");
+            if names.contains(&area) {
+                ends(tally, &what, &world, status(AT, 0x0E, 0, count as u16), checked(sense, 5));
+            } else {
+                let wanted = status(AT, 0x0C, 0, (count - moved) as u16);
+                ends(tally, &what, &world, wanted, stored(place, &[(DATA, &bytes[..moved])]));
+            }
+        }
+    }
+}
+
+fn read_damaged_count(tally: &mut Tally) {
     // A count that cannot be read, before the areas it names.
-    let world = on(&track, 7, &[read(0x1E, 0, 18)]).recording(COUNT_1.start, 0).recording(KEY_1.start, 0);
+    let world = on(&four(), 7, &[read(0x1E, 0, 18)]).recording(COUNT_1.start, 0).recording(KEY_1.start, 0);
     ends(tally, "count and key", &world, status(AT, 0x0E, 0, 18), checked(UNREADABLE_COUNT, 7));
     // Its lengths are not used: a length byte and the check of another count.
     for cell in [COUNT_1.start + 6, COUNT_1.start + 7, COUNT_1.start + 8] {
-        let world = on(&track, 7, &[read(0x1E, BOTH, 18)]).recording(cell, 0x01FF);
+        let world = on(&four(), 7, &[read(0x1E, BOTH, 18)]).recording(cell, 0x01FF);
         let what = format!("a length in cell {cell}");
         ends(tally, &what, &world, status(AT, 0x0E, 0, 18), checked(UNREADABLE_COUNT, 7));
     }
-    // In a chain, what was moved before stays.
-    let world = on(&track, 7, &[read(0x12, CHAIN, 8), word(0x06, 300, CHAIN, 6)]).recording(DATA_1.start, 0);
+}
+
+// In a chain, what was moved before stays.
+fn read_damage_in_a_chain(tally: &mut Tally) {
+    let world = on(&four(), 7, &[read(0x12, CHAIN, 8), word(0x06, 300, CHAIN, 6)]).recording(DATA_1.start, 0);
     let left = Left { sense: UNREADABLE, ..stored(M1 + 1, &[]) };
     let count = [(DATA, &R1.count()[..])];
     ends(tally, "the second of two", &world, status(AT + 8, 0x0E, 0, 6), Left { stored: &count, ..left });
 }
 
-// A record whose areas run to the end of the track, and one cell farther.
 pub fn read_off_the_track(tally: &mut Tally) {
-    let cells = R1.cells(0x81);
     for over in [0, 1, 7, 8, 13, 14, 15, 24] {
-        // The last `over` cells of the record lie off the track.
-        let at = TRACK_CELLS - 1 - (cells.len() - over);
-        let mut track = sound(&[R0]);
-        track[at] = MARKER;
-        track[at + 1..].copy_from_slice(&cells[..cells.len() - over]);
-        for code in RECORD_READS {
-            let needs = match code {
-                0x12 => 11,
-                _ => cells.len(),
-            };
-            let bytes = moves(code, &R1);
-            let world = on(&track, 7, &[read(code, LONG_OR_SHORT, 30)]);
-            let what = format!("{code:02X}, {over} cells off the track");
-            let fits = cells.len() - over;
-            if fits >= needs {
-                let wanted = status(AT, 0x0C, 0, 30 - bytes.len() as u16);
-                ends(tally, &what, &world, wanted, stored(at + 1, &[(DATA, &bytes)]));
-            } else {
-                let sense = if fits >= 11 { UNREADABLE } else { UNREADABLE_COUNT };
-                ends(tally, &what, &world, status(AT, 0x0E, 0, 30), checked(sense, 7));
-            }
+        record_off_the_track(tally, over);
+    }
+    r0_off_the_track(tally);
+    records_of_a_full_track(tally);
+}
+
+// A record whose areas run to the end of the track, or whose last `over` cells lie off it.
+fn record_off_the_track(tally: &mut Tally, over: usize) {
+    let cells = R1.cells(0x81);
+    let fits = cells.len() - over;
+    let at = TRACK_CELLS - 1 - fits;
+    let mut track = sound(&[R0]);
+    track[at] = MARKER;
+    track[at + 1..].copy_from_slice(&cells[..fits]);
+    for code in RECORD_READS {
+        let needs = match code {
+            0x12 => 11,
+            _ => cells.len(),
+        };
+        let bytes = moves(code, &R1);
+        let world = on(&track, 7, &[read(code, LONG_OR_SHORT, 30)]);
+        let what = format!("{code:02X}, {over} cells off the track");
+        if fits >= needs {
+            let wanted = status(AT, 0x0C, 0, 30 - bytes.len() as u16);
+            ends(tally, &what, &world, wanted, stored(at + 1, &[(DATA, &bytes)]));
+        } else {
+            let sense = if fits >= 11 { UNREADABLE } else { UNREADABLE_COUNT };
+            ends(tally, &what, &world, status(AT, 0x0E, 0, 30), checked(sense, 7));
         }
     }
-    // R0 may run off too: its data are of 4,076 bytes at most.
+}
+
+// R0 may run off too: its data are of 4,076 bytes at most.
+fn r0_off_the_track(tally: &mut Tally) {
     for (len, fits) in [(4076, true), (4077, false)] {
         let data: Vec<u8> = (0..len).map(|i| (i % 253) as u8).collect();
         let r0 = Record { number: 0, key: &[], data: &data };
@@ -393,7 +447,10 @@ pub fn read_off_the_track(tally: &mut Tally) {
             ends(tally, &what, &world, status(AT, 0x0E, 0, len as u16 + 8), checked(UNREADABLE, 0));
         }
     }
-    // Figure 2: data of 4,054 bytes behind an R0 of 8; and the longest key.
+}
+
+// Figure 2: data of 4,054 bytes behind an R0 of 8; and the longest key.
+fn records_of_a_full_track(tally: &mut Tally) {
     let data: Vec<u8> = (0..4054).map(|i| (i % 251) as u8).collect();
     let key: Vec<u8> = (0..255).collect();
     for record in [Record { number: 1, key: &[], data: &data }, Record { number: 1, key: &key, data: &data[..3797] }] {
@@ -435,42 +492,61 @@ pub fn read_markers(tally: &mut Tally) {
     ends(tally, "gaps that are not 0", &world, status(AT, 0x0C, 0, 0), stored(M1 + 1, &[(DATA, &R1.count())]));
 }
 
-// Words are fetched when they run, the address word is not fetched again, and the status word is stored last.
+// Data that are themselves command words, and a read of them to this address.
+fn words_as_data() -> Vec<u8> {
+    [no_op(CHAIN), word(0x03, 0, 0, 77)].concat()
+}
+
+fn reading_words(to: usize, flags: u8, count: u16) -> World {
+    let track = sound(&[R0, Record { number: 1, key: &[], data: &words_as_data() }]);
+    on(&track, 7, &[word(0x06, to as u32, flags, count), no_op(0), no_op(0)])
+}
+
 pub fn read_over_words(tally: &mut Tally) {
-    // Data that are themselves a command word.
-    let words = [no_op(CHAIN), word(0x03, 0, 0, 77)].concat();
-    let record = Record { number: 1, key: &[], data: &words };
-    let track = sound(&[R0, record]);
-    let lent = |to: usize, flags: u8, count| on(&track, 7, &[word(0x06, to as u32, flags, count), no_op(0), no_op(0)]);
+    read_over_the_chain(tally);
+    read_over_fixed_words(tally);
+    search_for_what_was_read(tally);
+}
+
+// Words are fetched when they run.
+fn read_over_the_chain(tally: &mut Tally) {
+    let words = words_as_data();
     let read = [(AT + 8, &words[..])];
     let wanted = status(AT + 16, 0x0C, 0, 77);
-    ends(tally, "over the next two words", &lent(AT + 8, CHAIN, 16), wanted, stored(M1 + 1, &read));
+    ends(tally, "over the next two words", &reading_words(AT + 8, CHAIN, 16), wanted, stored(M1 + 1, &read));
     // Over the word in hand: its flags and count are those that were fetched.
     let read = [(AT, &words[..])];
     let wanted = status(AT + 8, 0x0C, 0, 77);
-    ends(tally, "over the word in hand", &lent(AT, CHAIN, 16), wanted, stored(M1 + 1, &read));
+    ends(tally, "over the word in hand", &reading_words(AT, CHAIN, 16), wanted, stored(M1 + 1, &read));
     let read = [(AT, &words[..8])];
     let wanted = status(AT, 0x0C, 0x40, 0);
-    ends(tally, "over the word in hand, short", &lent(AT, CHAIN, 8), wanted, stored(M1 + 1, &read));
+    ends(tally, "over the word in hand, short", &reading_words(AT, CHAIN, 8), wanted, stored(M1 + 1, &read));
     // Over the next word, that becomes no command word.
     let bad = Record { number: 1, key: &[], data: &[0; 8] };
     let world = on(&sound(&[R0, bad]), 7, &[word(0x06, AT as u32 + 8, CHAIN, 8), no_op(0)]);
     let read = [(AT + 8, &[0_u8; 8][..])];
     ends(tally, "a word made bad", &world, program_check(AT + 8), stored(M1 + 1, &read));
-    // Over the address word: key and chain stay. Over the status word: it is stored behind.
+}
+
+// The address word is not fetched again, so key and chain stay; the status word is stored last, behind what was read.
+fn read_over_fixed_words(tally: &mut Tally) {
+    let words = words_as_data();
     for to in [56, 60, 64, 68, 72, 76] {
         let read = [(to, &words[..])];
         let wanted = status(AT, 0x0C, 0, 0);
         let what = format!("16 bytes to {to}");
-        ends(tally, &what, &lent(to, 0, 16), wanted, stored(M1 + 1, &read));
+        ends(tally, &what, &reading_words(to, 0, 16), wanted, stored(M1 + 1, &read));
         let wanted = status(AT + 8, 0x0C, 0, 1);
-        ends(tally, &what, &lent(to, CHAIN, 16), wanted, stored(M1 + 1, &read));
+        ends(tally, &what, &reading_words(to, CHAIN, 16), wanted, stored(M1 + 1, &read));
     }
     // Without a status word at the end there is none in the storage that was read over.
     let read = [(64, &words[..])];
     let left = Going { next: AT + 8, before: 0x06, place: M1 + 1, stored: &read, ..AFTER_READ };
-    goes_on(tally, "over the status word, going on", &lent(64, CHAIN, 16), 1, left);
-    // A search's bytes may be those that a read brought.
+    goes_on(tally, "over the status word, going on", &reading_words(64, CHAIN, 16), 1, left);
+}
+
+// A search's bytes may be those that a read brought.
+fn search_for_what_was_read(tally: &mut Tally) {
     let id = word(0x31, DATA as u32, CHAIN, 5);
     let words = [word(0x12, DATA as u32, CHAIN, 8), word(0x1A, 300, CHAIN, 5), id, tic(AT as u32 + 16), no_op(0)];
     let world = on(&four(), 7, &words);

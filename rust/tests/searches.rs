@@ -155,48 +155,47 @@ const KEYED_R0: Record = Record { number: 0, key: &[0x4B, 0x30], data: &[1, 2, 3
 
 // Search Key uses what Search ID or Read Count left selected, and passes no index there; after all else it takes the next.
 pub fn search_key_selected(tally: &mut Tally) {
-    let mut track = sound(&[KEYED_R0, R1, R2, R3]);
+    let track = sound(&[KEYED_R0, R1, R2, R3]);
     for before in 0..=255 {
-        let uses = matches!(before, 0x31 | 0x51 | 0x71 | 0x12);
-        let searches_in_a_row = matches!(before, 0x31 | 0x51 | 0x71 | 0x29 | 0x49 | 0x69);
-        let first = track.iter().position(|&cell| cell == MARKER).unwrap_or(0);
         for code in SEARCH_KEYS {
-            let what = format!("{code:02X} of R0's key after {before:02X}");
-            let sent = KEYED_R0.key;
-            // The tally that is held is that of the searches before.
-            let tallied = u8::from(searches_in_a_row);
-            let world = after(before, Selection::R0, &track, 4000, &searching(code, BOTH, 2))
-                .storing(DATA, sent)
-                .tallied(tallied);
-            if uses {
-                let satisfied = code != 0x49;
-                let next = if satisfied { AT + 16 } else { AT + 8 };
-                let whole = code == 0x29;
-                let left = Going {
-                    next,
-                    before: code,
-                    whole,
-                    tally: tallied,
-                    selection: Selection::R0,
-                    place: 7,
-                    stored: &[],
-                };
-                goes_on(tally, &what, &world, 1, left);
-            } else if searches_in_a_row {
-                ends(tally, &what, &world, status(AT, 0x0E, 0, 2), checked(SECOND_INDEX, 4000));
-            } else {
-                // R1's key begins as R0's, and is higher.
-                let next = if code == 0x29 { AT + 8 } else { AT + 16 };
-                let left =
-                    Going { next, before: code, tally: 1, selection: marker(first), place: first + 1, ..AFTER_SEARCH };
-                goes_on(tally, &what, &world, 1, left);
-            }
+            search_key_after(tally, &track, before, code);
         }
     }
-    // The selected record's count is read again, and then its key.
-    let world = after(0x12, Selection::R0, &track, 7, &searching(0x29, 0, 2));
-    track[18] ^= 1;
-    let key = after(0x12, Selection::R0, &track, 7, &searching(0x29, 0, 2));
+    selected_unreadable(tally, &track);
+}
+
+// One search for R0's key, with R0 selected, after this command.
+fn search_key_after(tally: &mut Tally, track: &[u16], before: u8, code: u8) {
+    let uses = matches!(before, 0x31 | 0x51 | 0x71 | 0x12);
+    let searches_in_a_row = matches!(before, 0x31 | 0x51 | 0x71 | 0x29 | 0x49 | 0x69);
+    let what = format!("{code:02X} of R0's key after {before:02X}");
+    // The tally that is held is that of the searches before.
+    let tallied = u8::from(searches_in_a_row);
+    let world = after(before, Selection::R0, track, 4000, &searching(code, BOTH, 2))
+        .storing(DATA, KEYED_R0.key)
+        .tallied(tallied);
+    if uses {
+        let satisfied = code != 0x49;
+        let next = if satisfied { AT + 16 } else { AT + 8 };
+        let whole = code == 0x29;
+        let selection = Selection::R0;
+        let left = Going { next, before: code, whole, tally: tallied, selection, place: 7, stored: &[] };
+        goes_on(tally, &what, &world, 1, left);
+    } else if searches_in_a_row {
+        ends(tally, &what, &world, status(AT, 0x0E, 0, 2), checked(SECOND_INDEX, 4000));
+    } else {
+        // R1's key begins as R0's, and is higher.
+        let next = if code == 0x29 { AT + 8 } else { AT + 16 };
+        let first = track.iter().position(|&cell| cell == MARKER).unwrap_or(0);
+        let left = Going { next, before: code, tally: 1, selection: marker(first), place: first + 1, ..AFTER_SEARCH };
+        goes_on(tally, &what, &world, 1, left);
+    }
+}
+
+// The selected record's count is read again, and then its key.
+fn selected_unreadable(tally: &mut Tally, track: &[u16]) {
+    let world = after(0x12, Selection::R0, track, 7, &searching(0x29, 0, 2));
+    let key = world.clone().recording(18, track[18] ^ 1);
     ends(tally, "the selected key", &key, status(AT, 0x0E, 0, 2), checked(UNREADABLE, 7));
     let count = world.recording(17, 0);
     ends(tally, "the selected count", &count, status(AT, 0x0E, 0, 2), checked(UNREADABLE_COUNT, 7));
@@ -233,32 +232,55 @@ pub fn second_index(tally: &mut Tally) {
     tally.same("figure 11 is the 9th", 2 * row.len() + 1, 9);
 }
 
+// A search of a row: by ID, and by key.
+fn by_id_in_row() -> [u8; 8] {
+    word(0x31, DATA as u32, BOTH, 5)
+}
+
+fn by_key_in_row() -> [u8; 8] {
+    word(0x29, DATA as u32, BOTH, 3)
+}
+
+// Searches for what no record has, from behind the last record on.
+fn row_of(words: &[[u8; 8]]) -> World {
+    on(&four(), M3 + 1, words).storing(DATA, &[0xFF; 5])
+}
+
+// The row ends at this word: its search meets the second index.
+fn row_ends(tally: &mut Tally, what: &str, world: &World, at: usize, count: u16) {
+    ends(tally, what, world, status(at, 0x0E, 0, count), checked(SECOND_INDEX, M3 + 1));
+}
+
 // What keeps the tally of index points and what ends it.
 pub fn index_tally(tally: &mut Tally) {
-    let id = word(0x31, DATA as u32, BOTH, 5);
-    let key = word(0x29, DATA as u32, BOTH, 3);
-    let other = [0xFF; 5];
-    let lent = |words: &[[u8; 8]]| on(&four(), M3 + 1, words).storing(DATA, &other);
-    let stop = |at, count| (status(at, 0x0E, 0, count), SECOND_INDEX);
+    let id = by_id_in_row();
+    tally_of_mixed_rows(tally);
+    // A satisfied search does not end the row; other commands do.
+    let found = row_of(&[id, no_op(0), id, id, id, id]).storing(DATA, &R0.id());
+    row_ends(tally, "satisfied at R0 behind the index", &found, AT + 40, 5);
+    tally_ended_by_others(tally);
+    // A TIC does not.
+    let world = row_of(&[id, tic(AT as u32 + 16), id, id, id, id]);
+    row_ends(tally, "a TIC in the row", &world, AT + 40, 5);
+}
+
+fn tally_of_mixed_rows(tally: &mut Tally) {
+    let (id, key) = (by_id_in_row(), by_key_in_row());
     // Search ID passes the index to R0, so Search Key uses R0, and from 7 on there are three more records.
-    let mixed = [id, key, key, key, key, key];
-    let (wanted, sense) = stop(AT + 40, 3);
-    ends(tally, "Search ID, then Search Key", &lent(&mixed), wanted, checked(sense, M3 + 1));
+    let mixed = row_of(&[id, key, key, key, key, key]);
+    row_ends(tally, "Search ID, then Search Key", &mixed, AT + 40, 3);
     let tallies = [1, 1, 1, 1, 1];
     for (n, tallied) in tallies.into_iter().enumerate() {
-        let mut world = lent(&mixed);
+        let mut world = mixed.clone();
         tally.same("start", world.start(), Answer::NotEnded);
         tally.same("go", world.go(n as u16 + 1), Answer::NotEnded);
         tally.same("the tally in a mixed row", world.view().tally(), tallied);
     }
-    let back = [key, key, key, id, id];
-    let (wanted, sense) = stop(AT + 24, 5);
-    ends(tally, "Search Key, then Search ID", &lent(&back), wanted, checked(sense, M3 + 1));
-    // A satisfied search does not end the row.
-    let found = lent(&[id, no_op(0), id, id, id, id]).storing(DATA, &R0.id());
-    let (wanted, sense) = stop(AT + 40, 5);
-    ends(tally, "satisfied at R0 behind the index", &found, wanted, checked(sense, M3 + 1));
-    // Any other command does: with it between, the row begins anew, and a whole round is free.
+    row_ends(tally, "Search Key, then Search ID", &row_of(&[key, key, key, id, id]), AT + 24, 5);
+}
+
+// Any command but Search ID, Search Key and TIC: with it between, the row begins anew, and a whole round is free.
+fn tally_ended_by_others(tally: &mut Tally) {
     for (name, between) in [
         ("No-op", word(0x03, 0, CHAIN, 1)),
         ("Sense", word(0x04, 400, CHAIN, 6)),
@@ -272,17 +294,13 @@ pub fn index_tally(tally: &mut Tally) {
         ("Read Key and Data", word(0x0E, 400, BOTH, 8)),
         ("Read Count, Key and Data", word(0x1E, 400, BOTH, 8)),
     ] {
-        let mut world = lent(&[id, between, no_op(0)]).storing(DATA + 8, &[0xC0]);
+        let mut world = row_of(&[by_id_in_row(), between, no_op(0)]).storing(DATA + 8, &[0xC0]);
         tally.same(name, world.start(), Answer::NotEnded);
         tally.same(name, world.go(1), Answer::NotEnded);
         tally.same(name, world.view().tally(), 1);
         tally.same(name, world.go(1), Answer::NotEnded);
         tally.same(name, world.view().tally(), 0);
     }
-    // A TIC does not.
-    let world = lent(&[id, tic(AT as u32 + 16), id, id, id, id]);
-    let (wanted, sense) = stop(AT + 40, 5);
-    ends(tally, "a TIC in the row", &world, wanted, checked(sense, M3 + 1));
 }
 
 // The rows of the Unit Check table, in their order: no marker, second index, unreadable.
@@ -327,8 +345,13 @@ pub fn search_rows(tally: &mut Tally) {
     }
 }
 
-// Each cell of an area, made a gap, another byte and a marker.
 pub fn search_damage(tally: &mut Tally) {
+    damaged_areas(tally);
+    damage_passed_over(tally);
+}
+
+// Each cell of an area, made a gap, another byte and a marker.
+fn damaged_areas(tally: &mut Tally) {
     let track = four();
     let home = HOME[1..].to_vec();
     let key = R1.key.to_vec();
@@ -352,7 +375,13 @@ pub fn search_damage(tally: &mut Tally) {
             }
         }
     }
-    // What is passed over is not read: keys and data by Search ID, data by Search Key, R0 and home address by both.
+}
+
+// What is passed over is not read: keys and data by Search ID, data by Search Key, R0 and home address by both.
+fn damage_passed_over(tally: &mut Tally) {
+    let track = four();
+    let home = HOME[1..].to_vec();
+    let key = R1.key.to_vec();
     for (code, from, sent, satisfied, damaged) in [
         (0x31, 7, &R1.id(), M1 + 1, [HOME_AREA, COUNT_0, DATA_0, KEY_1, DATA_1]),
         (0x29, 7, &key, M1 + 1, [HOME_AREA, COUNT_0, DATA_0, DATA_1, COUNT_2]),
@@ -409,8 +438,14 @@ pub fn search_markers(tally: &mut Tally) {
     ends(tally, "a count at the end of the track", &world, status(AT, 0x4C, 0, 0), stands(4085));
 }
 
-// A satisfied search goes 16 on, modulo 2 to the 24; a TIC between keeps what it left.
 pub fn search_goes_on(tally: &mut Tally) {
+    next_word_of_a_search(tally);
+    area_of_a_search(tally);
+    whole_field(tally);
+}
+
+// A satisfied search goes 16 on, modulo 2 to the 24.
+fn next_word_of_a_search(tally: &mut Tally) {
     // Figure 1.
     let mut world = on(&four(), 0, &[]).storing(73, &[0, 1, 0]);
     world.store(256, &word(0x39, 400, CHAIN, 4));
@@ -428,15 +463,19 @@ pub fn search_goes_on(tally: &mut Tally) {
     ends(tally, "the last word satisfied", &world, status(8, 0x0C, 0, 9), stands(7));
     world.store(DATA, &R1.id());
     ends(tally, "the last word not satisfied", &world, status(0, 0x0C, 0, 7), stands(7));
+}
 
-    // The area is tested whole, though only the field's bytes are fetched.
+// The area is tested whole, though only the field's bytes are fetched.
+fn area_of_a_search(tally: &mut Tally) {
     let world = on(&four(), 0, &[no_op(CHAIN), word(0x31, 510, BOTH, 3)]);
     let left = Left { sense: [0x80, 0x10], ..stands(0) };
     ends(tally, "an area beyond storage", &world, program_check(AT + 8), left);
     let world = on(&four(), 0, &[word(0x31, 507, 0, 5)]).storing(507, &R0.id());
     ends(tally, "an area to the end of storage", &world, status(AT, 0x4C, 0, 0), stands(7));
+}
 
-    // Figure 9: equal on four bytes of five is satisfied, and not equal over the whole field.
+// Figure 9: equal on four bytes of five is satisfied, and not equal over the whole field.
+fn whole_field(tally: &mut Tally) {
     for (count, whole) in [(4, false), (5, true), (6, true)] {
         let world = on(&four(), 0, &searching(0x31, BOTH, count)).storing(DATA, &R0.id());
         let left = Going { next: AT + 16, before: 0x31, whole, selection: Selection::R0, place: 7, ..AFTER_SEARCH };

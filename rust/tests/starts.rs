@@ -18,6 +18,23 @@ pub fn start_resets(tally: &mut Tally) {
 
 pub fn start_refused(tally: &mut Tally) {
     let right = used(world(&[no_op(0)]));
+    start_keys(tally, &right);
+    start_addresses(tally, &right);
+    start_flags(tally, &right);
+    start_counts_and_areas(tally, &right);
+}
+
+// It starts, or is refused.
+fn starts_or_not(tally: &mut Tally, what: &str, mut world: World, starts: bool) {
+    if starts {
+        tally.same(what, world.start(), Answer::NotEnded);
+    } else {
+        not_started(tally, what, &world);
+    }
+}
+
+// The first byte of the address word: a key and four bits that are zero.
+fn start_keys(tally: &mut Tally, right: &World) {
     for low in 1..=15 {
         let world = right.clone().storing(72, &[KEY << 4 | low]);
         not_started(tally, &format!("zero bits {low:X}"), &world);
@@ -27,6 +44,9 @@ pub fn start_refused(tally: &mut Tally) {
         tally.same(&format!("key {key}"), world.start(), Answer::NotEnded);
         tally.same(&format!("key {key} is held"), world.view().key(), key);
     }
+}
+
+fn start_addresses(tally: &mut Tally, right: &World) {
     for off in 1..=7 {
         let at = AT + off;
         let world = right.clone().storing(73, &[0, 0, at as u8]).storing(at, &no_op(0));
@@ -39,22 +59,19 @@ pub fn start_refused(tally: &mut Tally) {
     for len in [505, 511, 512] {
         let mut world = right.clone().storing(73, &[0, 1, 0xF8]).storing(504, &no_op(0));
         world.storage.truncate(len);
-        let what = format!("the first word at 504 of {len} bytes");
-        if len == 512 {
-            tally.same(&what, world.start(), Answer::NotEnded);
-        } else {
-            not_started(tally, &what, &world);
-        }
+        starts_or_not(tally, &format!("the first word at 504 of {len} bytes"), world, len == 512);
     }
+}
+
+fn start_flags(tally: &mut Tally, right: &World) {
     for flags in 0..=255 {
-        let mut world = right.clone().storing(AT, &no_op(flags));
-        let what = format!("flags {flags:02X}");
-        if matches!(flags, 0x00 | 0x20 | 0x40 | 0x60) {
-            tally.same(&what, world.start(), Answer::NotEnded);
-        } else {
-            not_started(tally, &what, &world);
-        }
+        let world = right.clone().storing(AT, &no_op(flags));
+        let starts = matches!(flags, 0x00 | 0x20 | 0x40 | 0x60);
+        starts_or_not(tally, &format!("flags {flags:02X}"), world, starts);
     }
+}
+
+fn start_counts_and_areas(tally: &mut Tally, right: &World) {
     for (address, count, starts) in [
         (0, 0, false),
         (0, 512, true),
@@ -66,13 +83,8 @@ pub fn start_refused(tally: &mut Tally) {
         (16_777_215, 1, false),
         (16_777_215, 65535, false),
     ] {
-        let mut world = right.clone().storing(AT, &word(0x03, address, 0, count));
-        let what = format!("{count} bytes from {address} on");
-        if starts {
-            tally.same(&what, world.start(), Answer::NotEnded);
-        } else {
-            not_started(tally, &what, &world);
-        }
+        let world = right.clone().storing(AT, &word(0x03, address, 0, count));
+        starts_or_not(tally, &format!("{count} bytes from {address} on"), world, starts);
     }
 }
 

@@ -259,23 +259,19 @@ pub fn write_licence(tally: &mut Tally) {
     }
 }
 
-// A chain from its start: a mask, a command, what stands between, and the write.
-pub fn write_after(tally: &mut Tally) {
-    let sheet = Sheet::four();
-    let sent = 440;
-    let search = |code, flags, count: usize| word(code, sent as u32, flags, count as u16);
+// A search: its code, its count, the bytes it is for, whether it is satisfied, and whether it is whole.
+type Before = (u8, usize, Vec<u8>, bool, bool);
+
+fn searches_before() -> Vec<Before> {
     let (id, key, home) = (R1.id(), R1.key.to_vec(), HOME[1..].to_vec());
     let more = |bytes: &[u8]| [bytes, &[0xEE; 4]].concat();
     let id_9 = [&id[..4], &[9]].concat();
-
-    // The search, its count, the bytes it is for, whether it is satisfied, and whether it is whole.
-    type Before = (u8, usize, Vec<u8>, bool, bool);
-    let searches: Vec<Before> = vec![
+    vec![
         (0x31, 5, id.clone(), true, true),
         (0x31, 9, more(&id), true, true),
         (0x31, 4, id.clone(), true, false),
         (0x31, 1, id.clone(), true, false),
-        (0x31, 5, id_9.clone(), false, false),
+        (0x31, 5, id_9, false, false),
         (0x71, 5, id.clone(), true, false),
         (0x71, 9, more(&id), true, false),
         (0x51, 5, R0.id(), true, false),
@@ -289,8 +285,14 @@ pub fn write_after(tally: &mut Tally) {
         (0x39, 8, more(&home), true, true),
         (0x39, 3, home.clone(), true, false),
         (0x39, 4, vec![9; 4], false, false),
-    ];
-    let between: Vec<(&str, Vec<[u8; 8]>, bool)> = vec![
+    ]
+}
+
+// What stands between a search and a write: its name, its words, and whether they keep a licence.
+type Between = (&'static str, Vec<[u8; 8]>, bool);
+
+fn words_between() -> Vec<Between> {
+    vec![
         ("nothing", vec![], true),
         ("a No-op", vec![no_op(CHAIN)], false),
         ("a Sense", vec![word(0x04, 480, BOTH, 1)], false),
@@ -299,51 +301,75 @@ pub fn write_after(tally: &mut Tally) {
         ("a Space Record", vec![word(0x0F, 0, CHAIN, 1)], false),
         ("a Read Count", vec![word(0x12, 480, CHAIN, 8)], false),
         ("a Search HA", vec![word(0x39, 480, CHAIN, 4)], false),
-    ];
+    ]
+}
+
+// Where the bytes of a search before a write lie.
+const SOUGHT: usize = 440;
+
+fn search(code: u8, flags: u8, count: usize) -> [u8; 8] {
+    word(code, SOUGHT as u32, flags, count as u16)
+}
+
+// A mask, a search, and a TIC both 8 on and 16 on. It leads to these words and, if so, a TIC; then comes the write. The
+// world, the write's address, and how many words run before it.
+fn chain_to_write(code: u8, (by, count, bytes, ..): &Before, words: &[[u8; 8]], by_tic: bool) -> (World, usize, usize) {
+    let mut lent = on(&Sheet::four().cells(), 7, &[word(0x1F, 400, CHAIN, 1), search(*by, BOTH, *count)])
+        .storing(400, &[ALL_WRITES])
+        .storing(SOUGHT, bytes)
+        .storing(AT + 16, &tic(160))
+        .storing(AT + 24, &tic(160))
+        .storing(DATA, &[&[0, 1, 0, 1, 9, 2, 0, 3], &[0x77; 5][..]].concat());
+    let mut at = 160;
+    for word in words {
+        lent.store(at, word);
+        at += 8;
+    }
+    let mut words_before = 3 + words.len();
+    if by_tic && !words.is_empty() {
+        lent.store(at, &tic(at as u32 + 16));
+        at += 16;
+        words_before += 1;
+    }
+    lent.store(at, &write(code, LONG_OR_SHORT, 13));
+    (lent, at, words_before)
+}
+
+// A chain from its start: a mask, a search, what stands between, and the write.
+fn write_behind(tally: &mut Tally, code: u8, before: &Before, (name, words, keeps): &Between, by_tic: bool) {
+    let sheet = Sheet::four();
+    let (by, count, _, satisfied, whole) = before;
+    let (mut begun, at, words_before) = chain_to_write(code, before, words, by_tic);
+    let what = format!("{by:02X} of {count}, satisfied {satisfied}, {name}, TIC {by_tic}: {code:02X}");
+    // What the words between leave in storage and of the place is taken from a run of theirs: another group checks them.
+    // The write is checked here.
+    tally.same(&what, begun.start(), Answer::NotEnded);
+    tally.same(&what, begun.go(words_before as u16), Answer::NotEnded);
+    tally.same(&what, begun.view().next(), at as u32);
+    if code == 0x19 || *keeps && licensed(code, *by, *whole) {
+        let wrote = sheet.write(code, 1, &begun.storage[DATA..DATA + 13]).expect("it has room");
+        let laid = begun.clone().laying(&wrote.over(&sheet.cells()));
+        let wanted = status(at, wrote.unit, 0, 13 - wrote.wanted as u16);
+        ends_as(tally, &what, &begun, &ended(&laid, wanted, stands(wrote.place)));
+    } else {
+        let place = begun.view().place().into();
+        ends(tally, &what, &begun, status(at, 0x0E, 0, 13), checked(WRONG_BEFORE, place));
+    }
+}
+
+// Each write behind each search, with each command between, and with a TIC or without.
+pub fn write_after(tally: &mut Tally) {
     for code in WRITES {
-        for (by, count, bytes, satisfied, whole) in &searches {
-            for (name, words, keeps) in &between {
+        for before in &searches_before() {
+            for between in &words_between() {
                 for by_tic in [false, true] {
-                    // The mask, the search, and a TIC both 8 on and 16 on; it leads to what stands between.
-                    let mut lent = on(&sheet.cells(), 7, &[word(0x1F, 400, CHAIN, 1), search(*by, BOTH, *count)])
-                        .storing(400, &[ALL_WRITES])
-                        .storing(sent, bytes)
-                        .storing(AT + 16, &tic(160))
-                        .storing(AT + 24, &tic(160))
-                        .storing(DATA, &[&[0, 1, 0, 1, 9, 2, 0, 3], &[0x77; 5][..]].concat());
-                    let mut at = 160;
-                    for word in words {
-                        lent.store(at, word);
-                        at += 8;
-                    }
-                    if by_tic && !words.is_empty() {
-                        lent.store(at, &tic(at as u32 + 16));
-                        at += 16;
-                    }
-                    lent.store(at, &write(code, LONG_OR_SHORT, 13));
-                    let what = format!("{by:02X} of {count}, satisfied {satisfied}, {name}, TIC {by_tic}: {code:02X}");
-                    // What the words between leave in storage and of the place is taken from a run of theirs: another
-                    // group checks them. The write is checked here.
-                    let mut begun = lent.clone();
-                    tally.same(&what, begun.start(), Answer::NotEnded);
-                    let words_before = 3 + words.len() + usize::from(by_tic && !words.is_empty());
-                    tally.same(&what, begun.go(words_before as u16), Answer::NotEnded);
-                    tally.same(&what, begun.view().next(), at as u32);
-                    if code == 0x19 || *keeps && licensed(code, *by, *whole) {
-                        let wrote = sheet.write(code, 1, &begun.storage[DATA..DATA + 13]).expect("it has room");
-                        let laid = begun.clone().laying(&wrote.over(&sheet.cells()));
-                        let wanted = status(at, wrote.unit, 0, 13 - wrote.wanted as u16);
-                        ends_as(tally, &what, &begun, &ended(&laid, wanted, stands(wrote.place)));
-                    } else {
-                        let place = begun.view().place().into();
-                        ends(tally, &what, &begun, status(at, 0x0E, 0, 13), checked(WRONG_BEFORE, place));
-                    }
+                    write_behind(tally, code, before, between, by_tic);
                 }
             }
         }
     }
     // Chains do not hand a licence on.
-    let mut world = on(&sheet.cells(), 7, &[search(0x31, 0, 5)]).storing(sent, &id);
+    let mut world = on(&Sheet::four().cells(), 7, &[search(0x31, 0, 5)]).storing(SOUGHT, &R1.id());
     tally.same("a search", world.start(), Answer::NotEnded);
     tally.same("a search", world.go(1), Answer::Ended);
     let world = world.storing(AT, &write(0x05, 0, 6));
@@ -363,6 +389,15 @@ fn barred(code: u8, mask: u8) -> bool {
 }
 
 pub fn write_mask(tally: &mut Tally) {
+    held_masks(tally);
+    for code in WRITES {
+        for mask in [None, Some(0x00), Some(0x40), Some(0x80), Some(0xC0), Some(0xD8)] {
+            mask_of_the_chain(tally, code, mask);
+        }
+    }
+}
+
+fn held_masks(tally: &mut Tally) {
     let sheet = Sheet::four();
     for mask in (0..=255).filter(|&mask| legal_mask(mask)) {
         for code in WRITES {
@@ -382,30 +417,30 @@ pub fn write_mask(tally: &mut Tally) {
             }
         }
     }
-    // Set by the chain itself, or not at all: then it is 0.
-    for code in WRITES {
-        for mask in [None, Some(0x00), Some(0x40), Some(0x80), Some(0xC0), Some(0xD8)] {
-            let (by, bytes): (u8, Vec<u8>) = if code == 0x15 { (0x39, HOME[1..].to_vec()) } else { (0x31, R2.id()) };
-            let first = match mask {
-                Some(_) => word(0x1F, 400, CHAIN, 1),
-                None => no_op(CHAIN),
-            };
-            let found = word(by, 408, CHAIN, bytes.len() as u16);
-            let words = [first, found, tic(AT as u32 + 8), write(code, LONG_OR_SHORT, 13)];
-            let sent = [0, 1, 0, 1, 9, 0, 0, 5, 1, 2, 3, 4, 5];
-            let lent = on(&sheet.cells(), 7, &words).storing(408, &bytes).storing(DATA, &sent);
-            let world = lent.storing(400, &[mask.unwrap_or(0xC0)]);
-            let what = format!("{code:02X} under mask {mask:02X?}");
-            if barred(code, mask.unwrap_or(0)) {
-                let place = if code == 0x15 { 1 } else { M2 + 1 };
-                ends(tally, &what, &world, status(AT + 24, 0x0E, 0, 13), checked(BARRED, place));
-            } else {
-                let wrote = sheet.write(code, 2, &sent).expect("it has room");
-                let laid = world.clone().laying(&wrote.over(&sheet.cells()));
-                let wanted = status(AT + 24, 0x0C, 0, 13 - wrote.wanted as u16);
-                ends_as(tally, &what, &world, &ended(&laid, wanted, stands(wrote.place)));
-            }
-        }
+}
+
+// Set by the chain itself, or not at all: then it is 0.
+fn mask_of_the_chain(tally: &mut Tally, code: u8, mask: Option<u8>) {
+    let sheet = Sheet::four();
+    let (by, bytes): (u8, Vec<u8>) = if code == 0x15 { (0x39, HOME[1..].to_vec()) } else { (0x31, R2.id()) };
+    let first = match mask {
+        Some(_) => word(0x1F, 400, CHAIN, 1),
+        None => no_op(CHAIN),
+    };
+    let found = word(by, 408, CHAIN, bytes.len() as u16);
+    let words = [first, found, tic(AT as u32 + 8), write(code, LONG_OR_SHORT, 13)];
+    let sent = [0, 1, 0, 1, 9, 0, 0, 5, 1, 2, 3, 4, 5];
+    let lent = on(&sheet.cells(), 7, &words).storing(408, &bytes).storing(DATA, &sent);
+    let world = lent.storing(400, &[mask.unwrap_or(0xC0)]);
+    let what = format!("{code:02X} under mask {mask:02X?}");
+    if barred(code, mask.unwrap_or(0)) {
+        let place = if code == 0x15 { 1 } else { M2 + 1 };
+        ends(tally, &what, &world, status(AT + 24, 0x0E, 0, 13), checked(BARRED, place));
+    } else {
+        let wrote = sheet.write(code, 2, &sent).expect("it has room");
+        let laid = world.clone().laying(&wrote.over(&sheet.cells()));
+        let wanted = status(AT + 24, 0x0C, 0, 13 - wrote.wanted as u16);
+        ends_as(tally, &what, &world, &ended(&laid, wanted, stands(wrote.place)));
     }
 }
 
@@ -601,52 +636,65 @@ pub fn write_later(tally: &mut Tally) {
 
 // ---- room
 
-// The longest data that fit with this key, and one byte more; behind R0, behind a record, and R0 itself.
+// Behind R0, behind a record, and R0 itself.
 pub fn write_room(tally: &mut Tally) {
     // Figure 2.
     let bare = Sheet::of(&[R0]);
     tally.same("R0 with DL 8 ends at", bare.end(0) - 1, 27);
     let four = Sheet::four();
     for (code, sheet, i) in [(0x15, &four, 0), (0x1D, &bare, 0), (0x1D, &four, 1), (0x1D, &four, 3)] {
-        let from = if code == 0x15 { 7 } else { sheet.end(i) + 1 };
         for kl in 0..=255 {
-            let key_cells = if kl == 0 { 0 } else { kl + 2 };
-            let most = TRACK_CELLS - from - 11 - key_cells - 2;
-            if code == 0x1D && i == 0 && kl == 0 {
-                tally.same("DL of room 0", most, 4054);
-            }
-            for (dl, fits) in [(most - 1, true), (most, true), (most + 1, false), (most + 2, false), (65535, false)] {
-                let lent = ready(code, sheet, i, 70).roomy(ROOMY).storing(DATA, &count_of(1, kl, dl));
-                let what = format!("behind {i}, KL {kl}, DL {dl}");
-                tally.same(&what, sheet.write(code, i, &count_of(1, kl, dl)).is_some(), fits);
-                let wanted = 8 + kl + most.min(dl);
-                for count in [8, wanted] {
-                    written(tally, &what, &lent, sheet, (code, i), BOTH, count);
-                }
-            }
-            // No room: the lesser of count and 8 moved; below 8 the lengths that are missing are zeros.
+            longest_data(tally, sheet, (code, i), kl);
             if kl % 51 == 0 {
-                let lent = ready(code, sheet, i, 70).roomy(ROOMY).storing(DATA, &count_of(1, kl, 65535));
-                for count in [1, 5, 6, 7, 8, 9, 100, 7900] {
-                    for flags in FLAGS {
-                        let what = format!("behind {i}, KL {kl}, DL 65535");
-                        written(tally, &what, &lent, sheet, (code, i), flags, count);
-                    }
-                }
+                no_room_at_all(tally, sheet, (code, i), kl);
             }
         }
     }
-    // The last cells of a track: the smallest record takes 15 cells.
     for left in 0..40 {
-        let data = vec![0x5A; TRACK_CELLS - 7 - 13 - left];
-        let sheet = Sheet::of(&[Record { number: 0, key: &[], data: &data }]);
-        tally.same("cells left", TRACK_CELLS - sheet.end(0), left);
-        for (kl, dl) in [(0, 0), (0, 1), (0, 2), (1, 0), (1, 1), (4, 0), (255, 0), (255, 65535)] {
-            let lent = ready(0x1D, &sheet, 0, 7).storing(DATA, &count_of(1, kl, dl));
-            for count in [1, 6, 7, 8, 12] {
-                let what = format!("{left} cells left, KL {kl}, DL {dl}");
-                written(tally, &what, &lent, &sheet, (0x1D, 0), BOTH, count);
-            }
+        last_cells(tally, left);
+    }
+}
+
+// The longest data that fit with this key, and one byte more.
+fn longest_data(tally: &mut Tally, sheet: &Sheet, (code, i): (u8, usize), kl: usize) {
+    let from = if code == 0x15 { 7 } else { sheet.end(i) + 1 };
+    let key_cells = if kl == 0 { 0 } else { kl + 2 };
+    let most = TRACK_CELLS - from - 11 - key_cells - 2;
+    if code == 0x1D && i == 0 && kl == 0 {
+        tally.same("DL of room 0", most, 4054);
+    }
+    for (dl, fits) in [(most - 1, true), (most, true), (most + 1, false), (most + 2, false), (65535, false)] {
+        let lent = ready(code, sheet, i, 70).roomy(ROOMY).storing(DATA, &count_of(1, kl, dl));
+        let what = format!("behind {i}, KL {kl}, DL {dl}");
+        tally.same(&what, sheet.write(code, i, &count_of(1, kl, dl)).is_some(), fits);
+        let wanted = 8 + kl + most.min(dl);
+        for count in [8, wanted] {
+            written(tally, &what, &lent, sheet, (code, i), BOTH, count);
+        }
+    }
+}
+
+// No room: the lesser of count and 8 moved; below 8 the lengths that are missing are zeros.
+fn no_room_at_all(tally: &mut Tally, sheet: &Sheet, (code, i): (u8, usize), kl: usize) {
+    let lent = ready(code, sheet, i, 70).roomy(ROOMY).storing(DATA, &count_of(1, kl, 65535));
+    for count in [1, 5, 6, 7, 8, 9, 100, 7900] {
+        for flags in FLAGS {
+            let what = format!("behind {i}, KL {kl}, DL 65535");
+            written(tally, &what, &lent, sheet, (code, i), flags, count);
+        }
+    }
+}
+
+// The last cells of a track: the smallest record takes 15 cells.
+fn last_cells(tally: &mut Tally, left: usize) {
+    let data = vec![0x5A; TRACK_CELLS - 7 - 13 - left];
+    let sheet = Sheet::of(&[Record { number: 0, key: &[], data: &data }]);
+    tally.same("cells left", TRACK_CELLS - sheet.end(0), left);
+    for (kl, dl) in [(0, 0), (0, 1), (0, 2), (1, 0), (1, 1), (4, 0), (255, 0), (255, 65535)] {
+        let lent = ready(0x1D, &sheet, 0, 7).storing(DATA, &count_of(1, kl, dl));
+        for count in [1, 6, 7, 8, 12] {
+            let what = format!("{left} cells left, KL {kl}, DL {dl}");
+            written(tally, &what, &lent, &sheet, (0x1D, 0), BOTH, count);
         }
     }
 }
@@ -766,6 +814,60 @@ fn run_whole(tally: &mut Tally, what: &str, begun: &World, words: usize) -> Worl
     whole
 }
 
+// A home address, an R0 and up to five records behind it, of random lengths and bytes.
+fn formatted(program: &mut Program, dice: &mut Dice, at: [u8; 4]) -> Sheet {
+    let home = [dice.below(256) as u8, at[0], at[1], at[2], at[3]];
+    program.sends(0x19, CHAIN, &home);
+    let mut sheet = Sheet { home, records: Vec::new() };
+    let lengths = [0, 0, 1, 2, 8, 50, 255, 256, 700];
+    let many = 1 + dice.below(6);
+    for i in 0..many {
+        let kl = [0, 0, 1, 4, 255][dice.below(5)];
+        let dl = lengths[dice.below(9)];
+        let [high, low] = (dl as u16).to_be_bytes();
+        let sent = [&at[..], &[i as u8, kl as u8, high, low], &dice.bytes(kl + dl)].concat();
+        let code = if i == 0 { 0x15 } else { 0x1D };
+        program.sends(code, CHAIN, &sent);
+        sheet = sheet.write(code, i.max(1) - 1, &sent).expect("it has room").sheet;
+    }
+    sheet
+}
+
+// Some records are updated, each behind a search for it.
+fn updated(program: &mut Program, dice: &mut Dice, at: [u8; 4], mut sheet: Sheet) -> Sheet {
+    for i in 0..sheet.records.len() {
+        let kept = &sheet.records[i];
+        if kept.data.is_empty() || dice.below(2) == 0 {
+            continue;
+        }
+        let (kl, dl) = (kept.key.len(), kept.data.len());
+        program.sends(0x31, CHAIN, &[&at[..], &[i as u8]].concat());
+        program.put(tic(program.next() - 8));
+        let (code, n) = if dice.below(2) == 0 { (0x05, dl) } else { (0x0D, kl + dl) };
+        let sent = dice.bytes(n);
+        program.sends(code, CHAIN, &sent);
+        sheet = sheet.write(code, i, &sent).expect("an update has room").sheet;
+    }
+    sheet
+}
+
+// Reads of the home address and the records: where each stores, and what.
+fn read_back(program: &mut Program, sheet: &Sheet) -> Vec<(usize, Vec<u8>)> {
+    let to_home = program.takes(0x1A, CHAIN, 5);
+    let mut reads = vec![(to_home, sheet.home.to_vec())];
+    for (i, kept) in sheet.records.iter().enumerate() {
+        let bytes = [&kept.count[..], &kept.key, &kept.data].concat();
+        // Without data a read is the chain's last.
+        if kept.data.is_empty() {
+            program.put(word(0x03, 0, CHAIN, 1));
+            break;
+        }
+        let to = program.takes(if i == 0 { 0x16 } else { 0x1E }, CHAIN, bytes.len());
+        reads.push((to, bytes));
+    }
+    reads
+}
+
 // A track formatted, filled, updated and read back in one chain, on each track of the pack; all others as they were.
 pub fn write_read_back(tally: &mut Tally) {
     let mut dice = Dice(0x2311_2841_0360_0019);
@@ -777,47 +879,9 @@ pub fn write_read_back(tally: &mut Tally) {
         let mut program = Program::new();
         program.sends(0x1F, CHAIN, &[ALL_WRITES]);
         program.sends(0x07, CHAIN, &[0, 0, 0, cylinder, 0, head]);
-        let home = [dice.below(256) as u8, 0, cylinder, 0, head];
-        program.sends(0x19, CHAIN, &home);
-        let mut sheet = Sheet { home, records: Vec::new() };
-        let lengths = [0, 0, 1, 2, 8, 50, 255, 256, 700];
-        let many = 1 + dice.below(6);
-        for i in 0..many {
-            let kl = [0, 0, 1, 4, 255][dice.below(5)];
-            let dl = lengths[dice.below(9)];
-            let [high, low] = (dl as u16).to_be_bytes();
-            let sent = [&at[..], &[i as u8, kl as u8, high, low], &dice.bytes(kl + dl)].concat();
-            let code = if i == 0 { 0x15 } else { 0x1D };
-            program.sends(code, CHAIN, &sent);
-            let wrote = sheet.write(code, i.max(1) - 1, &sent).expect("it has room");
-            sheet = wrote.sheet;
-        }
-        // Some records are updated, each behind a search for it.
-        for i in 0..many {
-            let kept = &sheet.records[i];
-            if kept.data.is_empty() || dice.below(2) == 0 {
-                continue;
-            }
-            let (kl, dl) = (kept.key.len(), kept.data.len());
-            program.sends(0x31, CHAIN, &[&at[..], &[i as u8]].concat());
-            program.put(tic(program.next() - 8));
-            let (code, n) = if dice.below(2) == 0 { (0x05, dl) } else { (0x0D, kl + dl) };
-            let sent = dice.bytes(n);
-            program.sends(code, CHAIN, &sent);
-            sheet = sheet.write(code, i, &sent).expect("an update has room").sheet;
-        }
-        let to_home = program.takes(0x1A, CHAIN, 5);
-        let mut reads = vec![(to_home, home.to_vec())];
-        for (i, kept) in sheet.records.iter().enumerate() {
-            let bytes = [&kept.count[..], &kept.key, &kept.data].concat();
-            // Without data a read is the chain's last.
-            if kept.data.is_empty() {
-                program.put(word(0x03, 0, CHAIN, 1));
-                break;
-            }
-            let to = program.takes(if i == 0 { 0x16 } else { 0x1E }, CHAIN, bytes.len());
-            reads.push((to, bytes));
-        }
+        let sheet = formatted(&mut program, &mut dice, at);
+        let sheet = updated(&mut program, &mut dice, at, sheet);
+        let reads = read_back(&mut program, &sheet);
         program.put(no_op(0));
         let words = program.words;
         let begun = program.world();
@@ -861,54 +925,69 @@ pub fn write_other_tracks(tally: &mut Tally) {
 
 // What may follow a write: its selection serves only 1D, and its place is where the next record is looked for.
 pub fn write_then(tally: &mut Tally) {
-    let sheet = Sheet::four();
     let sent = [&count_of(8, 2, 3)[..], &[1, 2, 3, 4, 5]].concat();
     for (code, i) in [(0x19, 0), (0x15, 0), (0x1D, 0), (0x1D, 1), (0x05, 1), (0x0D, 1), (0x05, 0)] {
-        let wrote = sheet.write(code, i, &sent).expect("it has room");
         for next in [0x19, 0x15, 0x1D, 0x05, 0x0D, 0x0F] {
-            let world = ready(code, &sheet, i, 9)
-                .storing(DATA, &sent)
-                .storing(AT, &write(code, BOTH, 13))
-                .storing(AT + 8, &write(next, LONG_OR_SHORT, 13));
-            let laid = world.clone().laying(&wrote.over(&sheet.cells()));
-            let what = format!("{next:02X} after {code:02X}");
-            if next != 0x0F && licensed(next, code, false) {
-                // Behind the record that was written, the last one.
-                let last = wrote.sheet.records.len().max(1) - 1;
-                let again = wrote.sheet.write(next, last, &sent).expect("it has room");
-                let laid = laid.laying(&again.over(&wrote.over(&sheet.cells())));
-                let wanted = status(AT + 8, again.unit, 0, 13 - again.wanted as u16);
-                ends_as(tally, &what, &world, &ended(&laid, wanted, stands(again.place)));
-            } else {
-                let wanted = status(AT + 8, 0x0E, 0, 13);
-                ends_as(tally, &what, &world, &ended(&laid, wanted, checked(WRONG_BEFORE, wrote.place)));
-            }
+            write_then_next(tally, (code, i), next, &sent);
         }
     }
-    // Reads behind a write: after the only record the hunt goes round and finds it; after Write HA there is none.
-    let read = |code| word(code, 400, LONG_OR_SHORT, 30);
     for code in [0x12, 0x06, 0x0E, 0x1E] {
-        let world = ready(0x1D, &sheet, 0, 9).storing(DATA, &sent);
-        let world = world.storing(AT, &write(0x1D, BOTH, 13)).storing(AT + 8, &read(code));
-        let wrote = sheet.write(0x1D, 0, &sent).expect("it has room");
-        let (from, to) = match code {
-            0x12 => (0, 8),
-            0x06 => (10, 13),
-            0x0E => (8, 13),
-            _ => (0, 13),
-        };
-        let bytes = &sent[from..to];
-        let laid = world.clone().laying(&wrote.over(&sheet.cells()));
-        let wanted = status(AT + 8, 0x0C, 0, 30 - bytes.len() as u16);
-        let left = [(400, bytes)];
-        ends_as(tally, &format!("{code:02X} after 1D"), &world, &ended(&laid, wanted, stored(M1 + 1, &left)));
-        let world = ready(0x19, &sheet, 0, 9).storing(DATA, &HOME);
-        let world = world.storing(AT, &write(0x19, BOTH, 5)).storing(AT + 8, &read(code));
-        let wrote = sheet.write(0x19, 0, &HOME).expect("it has room");
-        let laid = world.clone().laying(&wrote.over(&sheet.cells()));
-        let wanted = status(AT + 8, 0x0E, 0, 30);
-        ends_as(tally, &format!("{code:02X} after 19"), &world, &ended(&laid, wanted, checked([0, 2], 1)));
+        write_record_then_read(tally, code, &sent);
+        write_home_then_read(tally, code);
     }
+}
+
+// A write and a write or a Space Record of the same bytes.
+fn write_then_next(tally: &mut Tally, (code, i): (u8, usize), next: u8, sent: &[u8]) {
+    let sheet = Sheet::four();
+    let wrote = sheet.write(code, i, sent).expect("it has room");
+    let world = ready(code, &sheet, i, 9)
+        .storing(DATA, sent)
+        .storing(AT, &write(code, BOTH, 13))
+        .storing(AT + 8, &write(next, LONG_OR_SHORT, 13));
+    let laid = world.clone().laying(&wrote.over(&sheet.cells()));
+    let what = format!("{next:02X} after {code:02X}");
+    if next != 0x0F && licensed(next, code, false) {
+        // Behind the record that was written, the last one.
+        let last = wrote.sheet.records.len().max(1) - 1;
+        let again = wrote.sheet.write(next, last, sent).expect("it has room");
+        let laid = laid.laying(&again.over(&wrote.over(&sheet.cells())));
+        let wanted = status(AT + 8, again.unit, 0, 13 - again.wanted as u16);
+        ends_as(tally, &what, &world, &ended(&laid, wanted, stands(again.place)));
+    } else {
+        let wanted = status(AT + 8, 0x0E, 0, 13);
+        ends_as(tally, &what, &world, &ended(&laid, wanted, checked(WRONG_BEFORE, wrote.place)));
+    }
+}
+
+// After the only record the hunt goes round and finds it.
+fn write_record_then_read(tally: &mut Tally, code: u8, sent: &[u8]) {
+    let sheet = Sheet::four();
+    let world = ready(0x1D, &sheet, 0, 9).storing(DATA, sent);
+    let world = world.storing(AT, &write(0x1D, BOTH, 13)).storing(AT + 8, &word(code, 400, LONG_OR_SHORT, 30));
+    let wrote = sheet.write(0x1D, 0, sent).expect("it has room");
+    let (from, to) = match code {
+        0x12 => (0, 8),
+        0x06 => (10, 13),
+        0x0E => (8, 13),
+        _ => (0, 13),
+    };
+    let bytes = &sent[from..to];
+    let laid = world.clone().laying(&wrote.over(&sheet.cells()));
+    let wanted = status(AT + 8, 0x0C, 0, 30 - bytes.len() as u16);
+    let left = [(400, bytes)];
+    ends_as(tally, &format!("{code:02X} after 1D"), &world, &ended(&laid, wanted, stored(M1 + 1, &left)));
+}
+
+// After Write HA there is no record.
+fn write_home_then_read(tally: &mut Tally, code: u8) {
+    let sheet = Sheet::four();
+    let world = ready(0x19, &sheet, 0, 9).storing(DATA, &HOME);
+    let world = world.storing(AT, &write(0x19, BOTH, 5)).storing(AT + 8, &word(code, 400, LONG_OR_SHORT, 30));
+    let wrote = sheet.write(0x19, 0, &HOME).expect("it has room");
+    let laid = world.clone().laying(&wrote.over(&sheet.cells()));
+    let wanted = status(AT + 8, 0x0E, 0, 30);
+    ends_as(tally, &format!("{code:02X} after 19"), &world, &ended(&laid, wanted, checked([0, 2], 1)));
 }
 
 // Bytes are taken from any part of storage, and storage stays: from the write's own word, from the status word, from its end.
