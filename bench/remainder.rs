@@ -3,11 +3,7 @@
 pub const fn shifted(mut r: u16) -> u16 {
     let mut k = 0;
     while k < 8 {
-        r = if r & 0x8000 != 0 {
-            (r << 1) ^ 0x1021
-        } else {
-            r << 1
-        };
+        r = if r & 0x8000 != 0 { (r << 1) ^ 0x1021 } else { r << 1 };
         k += 1;
     }
     r

@@ -1,21 +1,11 @@
-// A go of 65,535 No-op command words against a plain loop in Rust: the same results, and the time of each; the stack that
-// a go uses; what a refusal costs. `bench/run --help` says more.
-mod common;
-
-use common::{median, started, storage_with, word, Lent, FIRST, FLAG_CHAIN, FULL, STATUS, WORDS};
+// A chain of No-op command words against a plain loop in Rust; and what a refusal costs.
+use crate::common::{
+    chained, in_turn, stack, started, storage_with, thousands, timed, word, Lent, Row, FIRST, FLAG_CHAIN, FLAG_LENGTH,
+    FULL, NO_OP, ONE, STATUS, TIC, WORDS,
+};
 use poplar::{Answer, Held, Shape, HELD_SIZE, TRACK_CELLS};
 use std::hint::black_box;
-use std::process::ExitCode;
-use std::time::Instant;
 
-const STORAGE: usize = FIRST + 8 * WORDS;
-
-const TRACK: Shape = Shape {
-    cylinders: 1,
-    heads: 1,
-};
-
-// Odd, so that a median is a time that was measured, and a multiple of 3, so that each goes first equally often.
 const ROUNDS: usize = 201;
 const WANTED: f64 = 2.0;
 
@@ -23,11 +13,13 @@ const WANTED: f64 = 2.0;
 const REFUSALS: usize = 10_000;
 
 const MODULUS: u32 = 1 << 24;
-const FLAG_LENGTH: u8 = 0x20;
-const NO_OP: u8 = 0x03;
 
 fn no_ops(n: usize) -> impl Iterator<Item = [u8; 8]> {
-    (1..=n).map(move |i| word(NO_OP, 0, if i < n { FLAG_CHAIN } else { 0 }, 1))
+    (0..n).map(move |i| word(NO_OP, 0, chained(i, n), 1))
+}
+
+pub fn laid(n: usize) -> Vec<u8> {
+    storage_with(FIRST + 8 * n, no_ops(n))
 }
 
 // What a chain of No-ops and TICs changes in a held state.
@@ -146,11 +138,7 @@ fn plain(held: &mut [u8; HELD_SIZE], storage: &mut [u8], allowance: u16) -> Opti
         left -= 1;
     }
     chain.put(held);
-    Some(if chain.going {
-        Answer::NotEnded
-    } else {
-        Answer::Ended
-    })
+    Some(if chain.going { Answer::NotEnded } else { Answer::Ended })
 }
 
 // What a go leaves. The rest of storage is compared too, by the caller.
@@ -162,45 +150,28 @@ struct Left {
 }
 
 fn left(answer: Option<Answer>, held: &[u8; HELD_SIZE], storage: &[u8]) -> Left {
-    Left {
-        answer,
-        held: *held,
-        status: storage[STATUS].try_into().unwrap(),
-    }
+    Left { answer, held: *held, status: storage[STATUS].try_into().unwrap() }
 }
 
 fn same(what: &str, name: &str, proved: &Left, other: &Left) -> Result<(), String> {
     if proved == other {
         return Ok(());
     }
-    Err(format!(
-        "{what}: results differ: proved {proved:02X?}, {name} {other:02X?}"
-    ))
+    Err(format!("{what}: results differ: proved {proved:02X?}, {name} {other:02X?}"))
 }
 
 fn packs() -> [(Shape, Vec<u16>); 2] {
-    [TRACK, FULL].map(|shape| (shape, vec![0; shape.cells() as usize]))
+    [ONE, FULL].map(|shape| (shape, vec![0; shape.cells() as usize]))
 }
 
 // One chain, for one allowance, on both packs and by the plain loop: what it leaves.
-fn agreed(
-    what: &str,
-    storage: &[u8],
-    packs: &mut [(Shape, Vec<u16>); 2],
-    allowance: u16,
-) -> Result<Left, String> {
+fn agreed(what: &str, storage: &[u8], packs: &mut [(Shape, Vec<u16>); 2], allowance: u16) -> Result<Left, String> {
     let what = &format!("{what}, {allowance} words");
     let mut all = Vec::new();
     for (shape, cells) in packs {
         let mut begun = started(storage.to_vec(), cells, *shape)?;
         let mut plain_begun = (*begun.held.bytes(), begun.storage.clone());
-        let answer = poplar::go(
-            &mut begun.held,
-            &mut begun.storage,
-            cells,
-            *shape,
-            allowance,
-        );
+        let answer = poplar::go(&mut begun.held, &mut begun.storage, cells, *shape, allowance);
         let proved = left(Some(answer), begun.held.bytes(), &begun.storage);
         let answer = plain(&mut plain_begun.0, &mut plain_begun.1, allowance);
         let other = left(answer, &plain_begun.0, &plain_begun.1);
@@ -217,58 +188,39 @@ fn agreed(
 // Chains after a first No-op: at each test of a word, one word that it stops and one beside it that it lets through.
 fn chains() -> Vec<(&'static str, Vec<[u8; 8]>)> {
     const BYTES: u32 = 1024;
-    let tic = |to: u32| word(0x08, to, 0, 0);
+    let tic = |to: u32| word(TIC, to, 0, 0);
     let at = |i: u32| FIRST as u32 + 8 * i;
     let no_op = word(NO_OP, 0, FLAG_CHAIN, 1);
     let last = word(NO_OP, 0, 0, 1);
     vec![
         ("a word off a multiple of 8", vec![tic(at(2) + 4), last]),
-        (
-            "the last word that fits",
-            [vec![tic(BYTES - 8)], vec![no_op; 94]].concat(),
-        ),
+        ("the last word that fits", [vec![tic(BYTES - 8)], vec![no_op; 94]].concat()),
         ("a word beyond storage", vec![tic(BYTES), last]),
         ("a word at the last address", vec![tic(MODULUS - 8), last]),
         ("a TIC", vec![tic(at(3)), no_op, last]),
         ("a TIC to itself", vec![tic(at(1)), last]),
-        (
-            "a TIC to a TIC",
-            vec![tic(at(3)), no_op, tic(at(4)), no_op, last],
-        ),
+        ("a TIC to a TIC", vec![tic(at(3)), no_op, tic(at(4)), no_op, last]),
         ("flag 80", vec![word(NO_OP, 0, 0x80, 1), last]),
         ("flag 10", vec![word(NO_OP, 0, 0x50, 1), last]),
         ("flag 20", vec![word(NO_OP, 0, 0x60, 1), last]),
         ("count 0", vec![word(NO_OP, 0, 0x40, 0), last]),
         ("code 10", vec![word(0x10, 0, 0x40, 1), last]),
         ("code F8", vec![word(0xF8, at(2), 0xFF, 1), last]),
-        (
-            "an area beyond storage",
-            vec![word(NO_OP, BYTES - 7, 0x40, 8), last],
-        ),
-        (
-            "an area at the end",
-            vec![word(NO_OP, BYTES - 8, 0x40, 8), last],
-        ),
+        ("an area beyond storage", vec![word(NO_OP, BYTES - 7, 0x40, 8), last]),
+        ("an area at the end", vec![word(NO_OP, BYTES - 8, 0x40, 8), last]),
         ("a count left", vec![word(NO_OP, 0, 0x20, 0x0123)]),
     ]
 }
 
-fn compare() -> Result<(), String> {
+pub fn compare() -> Result<(), String> {
     let mut packs = packs();
     let mut compared = 0;
-    let storage = storage_with(STORAGE, no_ops(WORDS));
+    let storage = laid(WORDS);
     for allowance in [0, 1, 2, 1000, 65_534, 65_535] {
         let left = agreed("No-ops", &storage, &mut packs, allowance)?;
-        let wanted = if usize::from(allowance) < WORDS {
-            Answer::NotEnded
-        } else {
-            Answer::Ended
-        };
+        let wanted = if usize::from(allowance) < WORDS { Answer::NotEnded } else { Answer::Ended };
         if left.answer != Some(wanted) {
-            return Err(format!(
-                "No-ops, {allowance} words: the answer is {:?}",
-                left.answer
-            ));
+            return Err(format!("No-ops, {allowance} words: the answer is {:?}", left.answer));
         }
         compared += 1;
     }
@@ -280,86 +232,69 @@ fn compare() -> Result<(), String> {
             compared += 1;
         }
     }
-    println!(
-        "go: {compared} results of proved, proved on a full pack and plain compared: all the same"
-    );
+    println!("noop: {compared} results of proved, proved on a full pack and plain compared: all the same");
     Ok(())
 }
 
-// One go of all the words on storage that is as it was: microseconds, and what it leaves.
-fn timed(
-    by_plain: bool,
-    shape: Shape,
-    cells: &mut [u16],
-    storage: &mut Vec<u8>,
-) -> Result<(f64, Left), String> {
+// All the words by the plain loop, or by a go on one of the packs: milliseconds, and what it leaves.
+fn one(plain_loop: bool, (shape, cells): &mut (Shape, Vec<u16>), storage: &mut Vec<u8>) -> Result<(f64, Left), String> {
     storage[STATUS].fill(0xE7);
-    let mut begun = started(std::mem::take(storage), cells, shape)?;
-    let held = black_box(&mut begun.held);
-    let lent = black_box(&mut begun.storage[..]);
-    let mut bytes = *held.bytes();
-    let start = Instant::now();
-    let answer = if by_plain {
-        plain(&mut bytes, lent, WORDS as u16)
+    let mut begun = started(std::mem::take(storage), cells, *shape)?;
+    let mut held = *begun.held.bytes();
+    let (ms, answer) = if plain_loop {
+        let lent = black_box(&mut begun.storage[..]);
+        timed(|| plain(black_box(&mut held), lent, WORDS as u16))
     } else {
-        Some(poplar::go(held, lent, cells, shape, WORDS as u16))
+        let (ms, answer) = begun.timed(cells, *shape, WORDS as u16);
+        held = *begun.held.bytes();
+        (ms, Some(answer))
     };
-    let us = start.elapsed().as_secs_f64() * 1e6;
-    if !by_plain {
-        bytes = *held.bytes();
-    }
-    let result = left(answer, &bytes, lent);
+    let result = left(answer, &held, &begun.storage);
     *storage = begun.storage;
-    Ok((us, result))
+    Ok((ms, result))
 }
 
-fn measure() -> Result<(), String> {
-    const NAMES: [&str; 3] = ["proved, 1 track", "proved, full pack", "plain"];
+// The medians on one track, on a full pack, and of the plain loop.
+fn medians() -> Result<Vec<f64>, String> {
     let mut packs = packs();
-    let as_laid = storage_with(STORAGE, no_ops(WORDS));
+    let as_laid = laid(WORDS);
+    let should = agreed("No-ops", &as_laid, &mut packs, WORDS as u16)?;
     let mut storage = as_laid.clone();
-    let mut times = [const { Vec::new() }; 3];
-    // The first round warms up and is not counted.
-    for round in 0..=ROUNDS {
-        let mut results = [const { None }; 3];
-        for turn in 0..3 {
-            let i = (round + turn) % 3;
-            let (shape, cells) = &mut packs[i % 2];
-            let (us, result) = timed(i == 2, *shape, cells, &mut storage)?;
-            if round > 0 {
-                times[i].push(us);
-            }
-            results[i] = Some(result);
-        }
-        let [Some(proved), Some(full), Some(other)] = results else {
-            unreachable!()
-        };
-        let what = &format!("round {round}");
-        same(what, NAMES[1], &proved, &full)?;
-        same(what, NAMES[2], &proved, &other)?;
-        if proved.answer != Some(Answer::Ended) {
-            return Err(format!("{what}: the answer is {:?}", proved.answer));
-        }
+    in_turn(ROUNDS, 3, |side| {
+        let (ms, result) = one(side == 2, &mut packs[side % 2], &mut storage)?;
+        same("No-ops", "this", &should, &result)?;
         storage[STATUS].copy_from_slice(&as_laid[STATUS]);
-        if storage != as_laid {
-            return Err(format!("{what}: storage differs outside the status word"));
-        }
-    }
-    let medians = times.map(median);
-    println!("go of {WORDS} No-op words, {ROUNDS} rounds in turn, results all the same");
-    println!("{:<20} {:>9} {:>9}", "", "median us", "ns / word");
-    for (name, us) in NAMES.iter().zip(medians) {
-        println!("{name:<20} {us:>9.1} {:>9.2}", us * 1e3 / WORDS as f64);
-    }
-    let ratio = medians[0] / medians[2];
-    println!("ratio proved / plain: {ratio:.2} (wanted: at most {WANTED:.1})");
-    Ok(())
+        let same = storage == as_laid;
+        same.then_some(ms).ok_or("storage differs outside the status word".to_string())
+    })
+}
+
+pub fn measure() -> Result<Row, String> {
+    let medians = medians()?;
+    Ok(Row {
+        part: "noop",
+        what: format!("a chain of {} No-op words", thousands(WORDS)),
+        rounds: ROUNDS,
+        proved: medians[0].max(medians[1]),
+        plain: vec![medians[2]],
+        wanted: WANTED,
+    })
+}
+
+// Nanoseconds of one refusal, of many.
+fn refused(held: &mut Held, storage: &mut [u8], (shape, cells): &mut (Shape, Vec<u16>)) -> Result<f64, String> {
+    let (ms, refused) = timed(|| {
+        let mut go = || poplar::go(black_box(held), storage, cells, *shape, 1);
+        (0..REFUSALS).filter(|_| go() == Answer::BadHeld).count()
+    });
+    let all = refused == REFUSALS;
+    all.then_some(ms * 1e6 / REFUSALS as f64).ok_or(format!("{refused} of {REFUSALS} bad keys refused"))
 }
 
 // What a go of a started chain with a bad key costs: refusal 4, the last one before the chain.
-fn refusals() -> Result<(), String> {
+fn refusals() -> Result<Vec<f64>, String> {
     let mut packs = packs();
-    let mut storage = storage_with(FIRST + 8, no_ops(1));
+    let mut storage = laid(1);
     let mut helds = Vec::new();
     for (shape, cells) in &mut packs {
         let begun = started(storage.clone(), cells, *shape)?;
@@ -367,44 +302,13 @@ fn refusals() -> Result<(), String> {
         bytes[1] = 16;
         helds.push(Held::from_bytes(bytes));
     }
-    let mut times = [const { Vec::new() }; 2];
-    for round in 0..=ROUNDS {
-        for turn in 0..2 {
-            let i = (round + turn) % 2;
-            let (shape, cells) = &mut packs[i];
-            let held = &mut helds[i];
-            let mut refused = 0;
-            let start = Instant::now();
-            for _ in 0..REFUSALS {
-                let answer = poplar::go(black_box(held), &mut storage, cells, *shape, 1);
-                refused += usize::from(answer == Answer::BadHeld);
-            }
-            let ns = start.elapsed().as_secs_f64() * 1e9 / REFUSALS as f64;
-            if refused != REFUSALS {
-                return Err(format!("{refused} of {REFUSALS} bad keys refused"));
-            }
-            if round > 0 {
-                times[i].push(ns);
-            }
-        }
-    }
-    let [track, full] = times.map(median);
-    println!("refusal of a bad key: {track:.1} ns on 1 track, {full:.1} ns on a full pack");
-    Ok(())
+    in_turn(ROUNDS, 2, |side| refused(&mut helds[side], &mut storage, &mut packs[side]))
 }
 
 // Every control command once. The six bytes at 160 are a seek's address and a mask; the last ends in a Unit Check.
 fn controls() -> Vec<u8> {
     const AREA: u32 = 160;
-    let words = [
-        (0x03, 1),
-        (0x04, 6),
-        (0x1F, 1),
-        (0x07, 6),
-        (0x0B, 6),
-        (0x1B, 6),
-        (0x0F, 1),
-    ];
+    let words = [(0x03, 1), (0x04, 6), (0x1F, 1), (0x07, 6), (0x0B, 6), (0x1B, 6), (0x0F, 1)];
     let words = words.map(|(code, count)| {
         let at = if code == 0x04 { AREA + 8 } else { AREA };
         word(code, at, FLAG_CHAIN, count)
@@ -414,19 +318,11 @@ fn controls() -> Vec<u8> {
     storage
 }
 
-// The stack of the No-ops and of the control commands.
-fn stack() -> Result<(), String> {
-    let chains = [storage_with(STORAGE, no_ops(WORDS)), controls()];
-    let lent = chains.map(|storage| Lent {
-        storage,
-        cells: vec![0; TRACK_CELLS],
-        shape: TRACK,
-    });
-    common::stack(lent.into())
-}
-
-fn main() -> ExitCode {
-    common::run(compare, || {
-        measure().and_then(|()| stack()).and_then(|()| refusals())
-    })
+pub fn besides() -> Result<(), String> {
+    let chains = [laid(WORDS), controls()];
+    let most = stack(chains.map(|storage| Lent { storage, cells: vec![0; TRACK_CELLS], shape: ONE }).into())?;
+    println!("noop: stack used by go: {most} bytes");
+    let refusals = refusals()?;
+    println!("noop: refusal of a bad key: {:.1} ns on 1 track, {:.1} ns on a full pack", refusals[0], refusals[1]);
+    Ok(())
 }
