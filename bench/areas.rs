@@ -11,7 +11,7 @@ pub const UNREADABLE: [u8; 2] = [0x08, 0x00];
 pub const UNREADABLE_COUNT: [u8; 2] = [0x08, 0x80];
 
 // An area's cells; a data area has a byte even where there are no data.
-pub fn key_cells(kl: usize) -> usize {
+pub const fn key_cells(kl: usize) -> usize {
     if kl == 0 {
         0
     } else {
@@ -19,12 +19,16 @@ pub fn key_cells(kl: usize) -> usize {
     }
 }
 
-pub fn data_cells(dl: usize) -> usize {
-    dl.max(1) + CHECK
+pub const fn data_cells(dl: usize) -> usize {
+    if dl == 0 {
+        1 + CHECK
+    } else {
+        dl + CHECK
+    }
 }
 
 // The cells of a record, its marker with them.
-pub fn record_cells(kl: usize, dl: usize) -> usize {
+pub const fn record_cells(kl: usize, dl: usize) -> usize {
     1 + COUNT_CELLS + key_cells(kl) + data_cells(dl)
 }
 

@@ -10,7 +10,7 @@ use crate::pack::{
 };
 use crate::remainder::{next_by_bits, next_by_table};
 use crate::single::{self, single, Ends, Moves, Single};
-use poplar::TRACK_CELLS;
+use poplar::{HELD_SIZE, TRACK_CELLS};
 use std::hint::black_box;
 
 const HOME_BYTES: usize = 5;
@@ -77,7 +77,7 @@ fn chain_word(load: Load, i: usize) -> [u8; 8] {
     word(code, at as u32, flags, count as u16)
 }
 
-pub fn laid(load: Load) -> Vec<u8> {
+fn laid(load: Load) -> Vec<u8> {
     let bytes = sent_at(load, load.tracks);
     let mut storage = storage_with(bytes, (0..words(load)).map(|i| chain_word(load, i)));
     storage[mask(load)] = ALL_WRITES;
@@ -299,7 +299,7 @@ fn write(
     let moves = Moves { code, count: sent.len(), sent, stored: &[] };
     let held = ended([0, 0], (0, 0), place as u16);
     let ends = Ends { unit: 0x0C, left: 0, held, cells: cells.1.to_vec() };
-    let change = |held: &mut [u8; poplar::HELD_SIZE]| {
+    let change = |held: &mut [u8; HELD_SIZE]| {
         held[2..4].copy_from_slice(&[ALL_WRITES, 1]);
         held[7..9].copy_from_slice(&[before.0, 1]);
         held[10] = before.1.map_or(0, |marker| if marker == 0 { 1 } else { 2 });

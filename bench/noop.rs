@@ -112,17 +112,22 @@ impl Chain {
         if code != NO_OP {
             return false;
         }
+        self.no_op(storage, flags, count);
+        true
+    }
+
+    #[inline(always)]
+    fn no_op(&mut self, storage: &mut [u8], flags: u8, count: u16) {
         self.before = NO_OP;
         self.whole = false;
         self.tally = 0;
         self.selection = None;
         if flags & FLAG_CHAIN == 0 {
             self.end(storage, 0x0C, 0, count);
-            return true;
+            return;
         }
         self.after_tic = false;
         self.next = (self.next + 8) % MODULUS;
-        true
     }
 }
 

@@ -1,5 +1,5 @@
 // The packs that are read, searched and written, how their tracks are made cell by cell, and what a chain leaves held.
-use crate::areas::{record_cells, COUNT_CELLS, MARKER, R0};
+use crate::areas::{data_cells, record_cells, COUNT_CELLS, MARKER, R0};
 use crate::common::Started;
 use crate::remainder::next_by_bits;
 use poplar::{Answer, Shape, HELD_LAYOUT, HELD_SIZE, TRACK_CELLS};
@@ -7,11 +7,7 @@ use poplar::{Answer, Shape, HELD_LAYOUT, HELD_SIZE, TRACK_CELLS};
 pub const SEEK_BYTES: usize = 6;
 
 // Where the first marker lies after an R0 of 8 bytes.
-pub const FIRST_MARKER: usize = R0 + record_cells_of_r0();
-
-const fn record_cells_of_r0() -> usize {
-    COUNT_CELLS + 8 + 2
-}
+pub const FIRST_MARKER: usize = R0 + COUNT_CELLS + data_cells(8);
 
 // Bytes from a xorshift generator.
 pub struct Bytes(pub u64);

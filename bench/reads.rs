@@ -10,7 +10,7 @@ use crate::pack::{
 };
 use crate::remainder::{next_by_bits, next_by_table};
 use crate::single::{self, single, Ends, Moves, Single};
-use poplar::TRACK_CELLS;
+use poplar::{HELD_SIZE, TRACK_CELLS};
 use std::hint::black_box;
 
 const SEARCH_KEY: u8 = 0x29;
@@ -50,7 +50,7 @@ fn chain_word(load: Load, i: usize) -> [u8; 8] {
     word(READ_ALL, at as u32, flags, load.moved() as u16)
 }
 
-pub fn laid(load: Load) -> Vec<u8> {
+fn laid(load: Load) -> Vec<u8> {
     let bytes = areas(load) + load.moved() * load.all_records();
     let mut storage = storage_with(bytes, (0..words(load)).map(|i| chain_word(load, i)));
     for track in 0..load.tracks {
@@ -269,7 +269,7 @@ fn from_place(
     single(name, moves, cells.to_vec(), |held| put_place(held, place), ends)
 }
 
-fn put_place(held: &mut [u8; poplar::HELD_SIZE], place: usize) {
+fn put_place(held: &mut [u8; HELD_SIZE], place: usize) {
     held[18..20].copy_from_slice(&(place as u16).to_be_bytes());
 }
 

@@ -1,5 +1,5 @@
 // A chain that searches a track by key, again and again, against two plain loops in Rust.
-use crate::areas::{count, key, lengths, COUNT_CELLS, MARKER, R0};
+use crate::areas::{count, key, lengths, record_cells, CHECK, COUNT_CELLS, MARKER, R0, UNREADABLE, UNREADABLE_COUNT};
 use crate::common::{
     in_turn, stack, started, status, storage_with, thousands, timed, word, Lent, Row, FIRST, FLAG_CHAIN, NO_OP, ONE,
     SEEK, STATUS, TIC, WORDS,
@@ -15,7 +15,7 @@ const SEARCH_KEY: u8 = 0x29;
 const RECORDS: usize = 39;
 const KEY: usize = 8;
 const DATA: usize = 80;
-const RECORD_CELLS: usize = 1 + COUNT_CELLS + KEY + 2 + DATA + 2;
+const RECORD_CELLS: usize = record_cells(KEY, DATA);
 
 const SECOND_INDEX: [u8; 2] = [0x00, 0x08];
 
@@ -140,11 +140,11 @@ fn agreed(what: &str, key: &[u8], cells: &mut [u16], allowance: u16) -> Result<F
 // A record, a cell of it behind its marker, what is put there, and the sense bytes, unless that area is passed over.
 type Damage = (&'static str, usize, usize, u16, Option<[u8; 2]>);
 const DAMAGE: &[Damage] = &[
-    ("the first count", 0, 1, 256 + 0xFF, Some([0x08, 0x80])),
-    ("a gap in a count's check", 20, COUNT_CELLS, 0, Some([0x08, 0x80])),
-    ("the first byte of a key", 7, COUNT_CELLS + 1, 256 + 0xFF, Some([0x08, 0x00])),
-    ("the last key's check", RECORDS - 1, COUNT_CELLS + KEY + 2, 0, Some([0x08, 0x00])),
-    ("data", 7, COUNT_CELLS + KEY + 2 + 40, 0, None),
+    ("the first count", 0, 1, 256 + 0xFF, Some(UNREADABLE_COUNT)),
+    ("a gap in a count's check", 20, COUNT_CELLS, 0, Some(UNREADABLE_COUNT)),
+    ("the first byte of a key", 7, COUNT_CELLS + 1, 256 + 0xFF, Some(UNREADABLE)),
+    ("the last key's check", RECORDS - 1, COUNT_CELLS + KEY + CHECK, 0, Some(UNREADABLE)),
+    ("data", 7, COUNT_CELLS + KEY + CHECK + 40, 0, None),
 ];
 
 pub fn compare() -> Result<(), String> {

@@ -1,14 +1,14 @@
 // Single command words, each on a track of its own, where they have the most to do: what each leaves, and its time.
-use crate::common::{in_turn, started, status, storage_with, word, Started, FIRST, ONE};
+use crate::common::{in_turn, started, status, storage_with, word, Started, FIRST, ONE, STATUS};
 use crate::pack::{same, same_cells, Left};
-use poplar::Held;
+use poplar::{Held, HELD_SIZE};
 
-pub const AREA: usize = FIRST + 8;
-pub const ROUNDS: usize = 501;
+const AREA: usize = FIRST + 8;
+const ROUNDS: usize = 501;
 
 // One command word, from a held state on, and what it leaves.
 pub struct Single {
-    pub name: &'static str,
+    name: &'static str,
     begun: Started,
     cells: Vec<u16>,
     should: Left,
@@ -27,7 +27,7 @@ pub struct Moves<'a> {
 pub struct Ends {
     pub unit: u8,
     pub left: usize,
-    pub held: [u8; poplar::HELD_SIZE],
+    pub held: [u8; HELD_SIZE],
     pub cells: Vec<u16>,
 }
 
@@ -36,7 +36,7 @@ pub fn single(
     name: &'static str,
     moves: Moves,
     mut cells: Vec<u16>,
-    change: impl FnOnce(&mut [u8; poplar::HELD_SIZE]),
+    change: impl FnOnce(&mut [u8; HELD_SIZE]),
     ends: Ends,
 ) -> Result<Single, String> {
     let one = word(moves.code, AREA as u32, 0, moves.count as u16);
@@ -48,7 +48,7 @@ pub fn single(
     begun.held = Held::from_bytes(bytes);
     let mut storage = begun.storage.clone();
     storage[AREA..][..moves.stored.len()].copy_from_slice(moves.stored);
-    storage[crate::common::STATUS].copy_from_slice(&status(1, ends.unit, ends.left as u16));
+    storage[STATUS].copy_from_slice(&status(1, ends.unit, ends.left as u16));
     Ok(Single { name, begun, cells, should: (storage, ends.held), should_cells: ends.cells })
 }
 
