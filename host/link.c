@@ -1,7 +1,7 @@
 /*
  * A host in C: it links the library, runs short chains as document 01 has them, and says what it heard: a seek that fails, its
- * sense, a track that is formatted and read back. tests/host compiles and runs it. Exit status: 0 all as expected; 1 something
- * else was heard.
+ * sense, a track that is formatted and read back, and a look at that track. tests/host compiles and runs it. Exit status: 0 all
+ * as expected; 1 something else was heard.
  */
 #include "../include/poplar.h"
 
@@ -181,12 +181,63 @@ static void format_a_track(void)
     finds_cells("the pack when it is read", cells, expected, CELLS);
 }
 
+static void finds_marker(const char *what, uint16_t cell, uint16_t expected)
+{
+    printf("link: %s: %u\n", what, (unsigned)cell);
+    if (cell != expected) {
+        printf("link: expected %u\n", (unsigned)expected);
+        wrong = 1;
+    }
+}
+
+/* One area: the answer, and where it lies; 77 where nothing is written. */
+static void looks(const char *what, uint16_t record, uint8_t part, uint8_t answer, uint32_t first, uint32_t bytes)
+{
+    uint32_t area[2] = {77, 77};
+
+    hears(what, poplar_area(cells + 3 * 4096, 4096, record, part, area, 2), answer);
+    if (area[0] != first || area[1] != bytes) {
+        printf("link: %s: %lu and %lu, expected %lu and %lu\n", what, (unsigned long)area[0], (unsigned long)area[1],
+               (unsigned long)first, (unsigned long)bytes);
+        wrong = 1;
+    }
+}
+
+/* The formatted track: its one marker, and every area. Then a bit of R1's count is changed. */
+static void look_at_the_track(void)
+{
+    uint16_t *track = cells + 3 * 4096;
+    uint32_t area[2] = {77, 77};
+
+    finds_marker("marker from 0", poplar_marker(track, 4096, 0), 28);
+    finds_marker("marker from 28", poplar_marker(track, 4096, 28), 28);
+    finds_marker("marker from 29", poplar_marker(track, 4096, 29), POPLAR_NO_MARKER);
+    finds_marker("marker of 4,095 cells", poplar_marker(track, 4095, 0), POPLAR_NO_TRACK);
+    looks("home address", 0, POPLAR_HOME, POPLAR_READABLE, 0, 5);
+    looks("R0's count", POPLAR_R0, POPLAR_COUNT, POPLAR_READABLE, 7, 9);
+    looks("R0's key", POPLAR_R0, POPLAR_KEY, POPLAR_ABSENT, 77, 77);
+    looks("R0's data", POPLAR_R0, POPLAR_DATA, POPLAR_READABLE, 18, 8);
+    looks("R1's count", 29, POPLAR_COUNT, POPLAR_READABLE, 29, 9);
+    looks("R1's key", 29, POPLAR_KEY, POPLAR_READABLE, 40, 2);
+    looks("R1's data", 29, POPLAR_DATA, POPLAR_READABLE, 44, 3);
+    track[30] ^= 1;
+    looks("R1's count, damaged", 29, POPLAR_COUNT, POPLAR_UNREADABLE, 29, 9);
+    looks("R1's key then", 29, POPLAR_KEY, POPLAR_NOT_KNOWN, 77, 77);
+    looks("R1's data then", 29, POPLAR_DATA, POPLAR_NOT_KNOWN, 77, 77);
+    track[30] ^= 1;
+    looks("part 4", 29, 4, POPLAR_WRONG_CALL, 77, 77);
+    looks("record 4,097", 4097, POPLAR_COUNT, POPLAR_WRONG_CALL, 77, 77);
+    hears("one number to write", poplar_area(track, 4096, 0, POPLAR_HOME, area, 1), POPLAR_WRONG_CALL);
+}
+
 /* A length of 0 may come with a null pointer. */
 static void nothing_lent(void)
 {
     hears("fresh of nothing", poplar_fresh(NULL, 0), 0);
     hears("start with nothing", poplar_start(NULL, 0, NULL, 0, NULL, 0, 0, 0), POPLAR_BAD_STORAGE);
     hears("go with nothing", poplar_go(NULL, 0, NULL, 0, NULL, 0, 0, 0, 1), POPLAR_BAD_STORAGE);
+    finds_marker("marker of nothing", poplar_marker(NULL, 0, 0), POPLAR_NO_TRACK);
+    hears("area of nothing", poplar_area(NULL, 0, POPLAR_R0, POPLAR_COUNT, NULL, 0), POPLAR_WRONG_CALL);
     hears("start without cells",
           poplar_start(held, sizeof held, storage, STORAGE, NULL, 0, CYLINDERS, HEADS), POPLAR_BAD_PACK);
     hears("start without held",
@@ -205,6 +256,7 @@ int main(void)
     sense_it();
     start_at_a_tic();
     format_a_track();
+    look_at_the_track();
     nothing_lent();
     printf(wrong ? "link: something else was expected\n" : "link: all as expected\n");
     return wrong;

@@ -20,6 +20,9 @@
  * That is all. Every length, number and content gets one of the answers below, and nothing outside the three is read or
  * written. There is no global state: one box is one held, any number of them may be used, and calls on different memory
  * may run in several threads at once.
+ *
+ * poplar_marker and poplar_area look at a track without a box. They are lent a track's cells, to be read only, and two
+ * numbers to be written; the same is owed of these, and the same holds.
  */
 #ifndef POPLAR_H
 #define POPLAR_H
@@ -96,6 +99,34 @@ enum poplar_held_at {
     POPLAR_AT_ZEROS = 24
 };
 
+/*
+ * A look at one track needs no box: poplar_marker and poplar_area go by the track alone. A record is known by the first
+ * cell of its count area: POPLAR_R0 for R0, the cell after its marker for any other.
+ */
+#define POPLAR_TRACK_CELLS 4096
+#define POPLAR_R0 7
+
+/* What poplar_marker answers where it answers no cell. */
+#define POPLAR_NO_MARKER 4096
+#define POPLAR_NO_TRACK 65535
+
+/* The part of a track that poplar_area is asked for. */
+enum poplar_part {
+    POPLAR_HOME = 0, /* the home address, whatever the record */
+    POPLAR_COUNT = 1,
+    POPLAR_KEY = 2,
+    POPLAR_DATA = 3
+};
+
+/* What poplar_area answers. An area is readable when all its cells lie on the track, are bytes, and the check agrees. */
+enum poplar_look {
+    POPLAR_WRONG_CALL = 0, /* track not 4,096 cells, area not 2 elements, part over 3, or record over 4,096 */
+    POPLAR_READABLE = 1,
+    POPLAR_UNREADABLE = 2,
+    POPLAR_ABSENT = 3,     /* there is no such area: the key where KL is 0 */
+    POPLAR_NOT_KNOWN = 4   /* the record's count area is not readable, so its key and data cannot be found */
+};
+
 #ifdef __cplusplus
 extern "C" {
 #endif
@@ -120,6 +151,21 @@ uint8_t poplar_start(uint8_t *held, size_t held_len, uint8_t *storage, size_t st
  */
 uint8_t poplar_go(uint8_t *held, size_t held_len, uint8_t *storage, size_t storage_len, uint16_t *cells,
                   size_t cells_len, uint32_t cylinders, uint32_t heads, uint16_t allowance);
+
+/*
+ * The first cell at or after `place` that holds a marker; POPLAR_NO_MARKER if there is none from there on;
+ * POPLAR_NO_TRACK if track_len is not POPLAR_TRACK_CELLS. The track is read only, and may be part of a pack's cells.
+ */
+uint16_t poplar_marker(const uint16_t *track, size_t track_len, uint16_t place);
+
+/*
+ * One area of a track: where it lies and whether it is readable. Answers a number of enum poplar_look. If that is
+ * POPLAR_READABLE or POPLAR_UNREADABLE, area[0] becomes its first cell and area[1] its bytes without the two of the
+ * check, which follow them; else nothing is written. An area that is not readable may reach past the track. The track is
+ * read only; area_len is 2, and area lies outside the track.
+ */
+uint8_t poplar_area(const uint16_t *track, size_t track_len, uint16_t record, uint8_t part, uint32_t *area,
+                    size_t area_len);
 
 #ifdef __cplusplus
 }

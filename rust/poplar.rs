@@ -1,6 +1,6 @@
 //! Poplarstep, the stand-in for the IBM 2841 disk control, as a Rust host uses it.
 //!
-//! The library is proved and built by `rt staticlib box_export`; this file only gives its three functions Rust's types.
+//! The library is proved and built by `rt staticlib box_export`; this file only gives its five functions Rust's types.
 //! `include/poplar.h` says the same for C. To compile it:
 //!
 //! ```text
@@ -11,6 +11,8 @@
 //!
 //! A host keeps a [`Held`] and lends it, the channel's storage and the pack's cells to [`start`] and [`go`]. Every input
 //! gets an [`Answer`]. There is no global state, so boxes on different memory may run in several threads at once.
+//!
+//! [`marker`] and [`area`] look at a track without a box: where its markers and areas lie, and which areas are readable.
 
 /// The version of the interface: the functions, the answers and the layout of [`Held`].
 pub const INTERFACE: u32 = 1;
@@ -23,6 +25,9 @@ pub const HELD_LAYOUT: u8 = 1;
 
 /// Cells of a track.
 pub const TRACK_CELLS: usize = 4096;
+
+/// The record that [`area`] knows as R0: its count area begins here.
+pub const R0: u16 = 7;
 
 // A slice goes as its start and its length in elements. The library uses nothing but these elements, and nothing is asked
 // of their values.
@@ -49,6 +54,15 @@ extern "C" {
         cylinders: u32,
         heads: u32,
         allowance: u16,
+    ) -> u8;
+    fn poplar_marker(track: *const u16, track_len: usize, place: u16) -> u16;
+    fn poplar_area(
+        track: *const u16,
+        track_len: usize,
+        record: u16,
+        part: u8,
+        area: *mut u32,
+        area_len: usize,
     ) -> u8;
 }
 
@@ -294,4 +308,92 @@ pub fn go_raw(held: &mut [u8], storage: &mut [u8], cells: &mut [u16], shape: Sha
         )
     };
     Answer::from(number)
+}
+
+/// A look that cannot be made: the track is not 4,096 cells long, or the record is over 4,096.
+#[derive(Clone, Copy, Debug, PartialEq, Eq)]
+pub struct WrongCall;
+
+impl std::fmt::Display for WrongCall {
+    fn fmt(&self, f: &mut std::fmt::Formatter<'_>) -> std::fmt::Result {
+        f.write_str("the track is not 4,096 cells long, or the record is over 4,096")
+    }
+}
+
+impl std::error::Error for WrongCall {}
+
+/// An area of the home address or of a record.
+#[derive(Clone, Copy, Debug, PartialEq, Eq)]
+pub enum Part {
+    Home,
+    Count,
+    Key,
+    Data,
+}
+
+impl Part {
+    /// The library's number of it.
+    pub fn number(self) -> u8 {
+        match self {
+            Part::Home => 0,
+            Part::Count => 1,
+            Part::Key => 2,
+            Part::Data => 3,
+        }
+    }
+}
+
+/// Where an area lies: its first cell, and its bytes without the two of the check, which follow them. One that is not readable may
+/// reach past the track.
+#[derive(Clone, Copy, Debug, PartialEq, Eq)]
+pub struct Area {
+    pub first: u32,
+    pub bytes: u32,
+}
+
+/// What a look at an area finds.
+#[derive(Clone, Copy, Debug, PartialEq, Eq)]
+pub enum Look {
+    /// All its cells lie on the track and are bytes, and the check agrees.
+    Readable(Area),
+    /// It is not readable.
+    Unreadable(Area),
+    /// There is no such area: the key where KL is 0.
+    Absent,
+    /// The record's count area is not readable, so its key and data cannot be found.
+    NotKnown,
+}
+
+/// The first cell of a track at or after `place` that holds a marker; `None` if there is none from there on. A record's number for
+/// [`area`] is one more than its marker's cell.
+pub fn marker(track: &[u16], place: u16) -> Result<Option<u16>, WrongCall> {
+    // Sound: the slice is valid for its length, and is read only.
+    let cell = unsafe { poplar_marker(track.as_ptr(), track.len(), place) };
+    match cell {
+        u16::MAX => Err(WrongCall),
+        cell if usize::from(cell) < TRACK_CELLS => Ok(Some(cell)),
+        _ => Ok(None),
+    }
+}
+
+/// One area of a track: the home address, whatever the record, or an area of the record whose count area begins at cell `record`,
+/// [`R0`] or a marker's cell + 1.
+pub fn area(track: &[u16], record: u16, part: Part) -> Result<Look, WrongCall> {
+    let mut found = [0; 2];
+    let number = area_raw(track, record, part.number(), &mut found);
+    let area = Area { first: found[0], bytes: found[1] };
+    match number {
+        1 => Ok(Look::Readable(area)),
+        2 => Ok(Look::Unreadable(area)),
+        3 => Ok(Look::Absent),
+        4 => Ok(Look::NotKnown),
+        _ => Err(WrongCall),
+    }
+}
+
+/// [`area`] by numbers, with any slice for what it finds: 0 wrong call, 1 readable, 2 not, 3 absent, 4 not known. 1 and 2 write the
+/// first cell and the bytes.
+pub fn area_raw(track: &[u16], record: u16, part: u8, area: &mut [u32]) -> u8 {
+    // Sound: two slices lent at once, one of them to be written, do not overlap, and each is valid for its length.
+    unsafe { poplar_area(track.as_ptr(), track.len(), record, part, area.as_mut_ptr(), area.len()) }
 }

@@ -1,5 +1,6 @@
 // Checks of the wrapper and of the library behind it: both sides of every limit, the refusals and their order, the control
-// commands, searches, reads and writes with their status words, and that an allowance can be cut. Document 01 is what they are held to.
+// commands, searches, reads and writes with their status words, looks at a track, and that an allowance can be cut. Document 01 is
+// what they are held to.
 //
 // `tests` runs every group and prints how many checks each made; `tests --help` says more.
 #[path = "tests/allowance.rs"]
@@ -12,6 +13,8 @@ mod commands;
 mod lent;
 #[path = "tests/limits.rs"]
 mod limits;
+#[path = "tests/look.rs"]
+mod look;
 #[path = "tests/reads.rs"]
 mod reads;
 #[path = "tests/searches.rs"]
@@ -71,6 +74,10 @@ const GROUPS: &[Group] = &[
     ("program-checks", commands::program_checks),
     ("addresses-wrap", commands::addresses_wrap),
     ("track", track::laid),
+    ("look-markers", look::look_markers),
+    ("look-areas", look::look_areas),
+    ("look-damage", look::look_damage),
+    ("look-wrong-calls", look::look_wrong_calls),
     ("search-home", searches::search_home),
     ("search-id", searches::search_id),
     ("search-key", searches::search_key),

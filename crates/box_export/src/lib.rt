@@ -1,4 +1,4 @@
-// The box under names that C and Rust link. Nothing is required of any caller.
+// The box, and a look at a track, under names that C and Rust link. Nothing is required of any caller.
 use held::Held;
 use held::Kept;
 use pack::Shape;
@@ -8,6 +8,7 @@ ghost use lib.Dec.{eqb};
 ghost use Rattle.cells.specs.Choice.{pick};
 ghost use Rattle.held.specs.Held.{fresh};
 ghost use Rattle.held.specs.Bytes.{heldBytes, encoded, bit};
+ghost use Rattle.look.specs.Look.{markerCall, looked, areaCall};
 ghost use Rattle.box_export.specs.Calls.{call, shape, startCall, goCall};
 
 // The fresh box: 1 if it was written, 0 with nothing written if the length is wrong.
@@ -68,4 +69,20 @@ pub extern "C" fn poplar_go(
         }
         Kept::Wrong => host::number_of(host::wrong_held(g, storage.len(), cells.len())),
     }
+}
+
+// The first marker of a track at or after a place.
+#[no_mangle]
+pub extern "C" fn poplar_marker(track: &[u16], place: u16) -> u16
+    ensures { λ r. ⌜ r ≡ markerCall (now (track .entry)) place ⌝ }
+{
+    look::marker(track, place)
+}
+
+// One area of a track: where it lies, and whether it is readable.
+#[no_mangle]
+pub extern "C" fn poplar_area(track: &[u16], record: u16, part: u8, area: &mut [u32]) -> u8
+    ensures { λ r. ⌜ looked r (now (area .exit)) ≡ areaCall (now (track .entry)) «record» part (now (area .entry)) ⌝ }
+{
+    look::area(track, record, part, area)
 }

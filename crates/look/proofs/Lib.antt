@@ -1,0 +1,2 @@
+-- Laws of a look at a track.
+pub mod Laws

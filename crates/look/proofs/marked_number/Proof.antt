@@ -1,0 +1,30 @@
+-- Each arm knows its answer, and gives its number. Assumes nothing.
+use Rattle.look.specs.Look.{markedNo}
+use borrow.Author.Needs.{needs}
+use Rattle.look.proofs.marked_number.Statement.{statement}
+use Rattle.look.proofs.marked_number.Tie as tie
+
+enum-known-m : tie.Need-enum-known-m
+enum-known-m c = search needs
+
+enum-told : tie.Need-enum-told
+enum-told c = search needs
+
+enum-told-2 : tie.Need-enum-told-2
+enum-told-2 c = search needs
+
+returns : tie.Need-returns
+unfolding markedNo
+returns c = rw (c .before .m .given .1)
+
+returns-2 : tie.Need-returns-2
+unfolding markedNo
+returns-2 c = rw (c .enum-told .given .1)
+
+returns-3 : tie.Need-returns-3
+unfolding markedNo
+returns-3 c = rw (c .enum-told2 .given .1)
+
+pub marked-number-spec : {M : Type 1} → statement M
+marked-number-spec =
+    tie.close (tie.spec enum-known-m enum-told enum-told-2 returns returns-2 returns-3)

@@ -1,0 +1,2 @@
+-- The model of a look at a track.
+pub mod Look

@@ -1,0 +1,3 @@
+-- The boxes are shut out, and the exported routines pinned.
+pub mod Boxes
+pub mod Exports

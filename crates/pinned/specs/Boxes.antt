@@ -1,0 +1,161 @@
+-- Document 01, "How tightly it is pinned": what a box must do, and the six boxes that are shut out, each as a function of the model.
+-- Assumes nothing.
+use Prim.Native.Nat.{ℕ, zero, suc, _≤_}
+use mathlib.Core.Path.{_≡_}
+use mathlib.Core.Bool.{Bool, true}
+use mathlib.Core.List.{List, [], _∷_}
+use lib.Dec.{ltb, leb}
+use Rattle.cells.specs.Choice.{pick, both}
+use Rattle.rows.specs.declared.Row.the-variants.{Unreadable}
+use Rattle.words.specs.declared.Word.{Word}
+use Rattle.words.specs.declared.Status.{Status}
+use Rattle.words.specs.declared.Tested.{Tested}
+use Rattle.words.specs.declared.Tested.the-variants.{Obey, Jump, Bad}
+use Rattle.words.specs.Words.{tested}
+use Rattle.words.specs.Status.{stored, statusFor}
+use Rattle.pack.specs.declared.Shape.{Shape}
+use Rattle.pack.specs.Tracks.{trackAt}
+use Rattle.commands.specs.declared.Command.{Command}
+use Rattle.commands.specs.declared.Command.the-variants.{Controls, Searches, Reads, Writes, Unknown}
+use Rattle.commands.specs.Commands.{commandOf}
+use Rattle.held.specs.declared.Channel.{Channel}
+use Rattle.held.specs.Held.{rested}
+use Rattle.outcome.specs.declared.Done.{Done}
+use Rattle.outcome.specs.Outcome.{checked}
+use Rattle.settle.specs.Settle.{unitStatus, lengthStatus, goesOn}
+use Rattle.chain.specs.Act.{Acted, acted, acts}
+use Rattle.chain.specs.Step.{World, world, under, settled, obeyed, takes, step, run}
+use Rattle.host.specs.declared.Answer.{Answer}
+use Rattle.host.specs.declared.Answer.the-variants.{ChainEnded, AllowanceUsed, NoChain}
+use Rattle.host.specs.Host.{Hears, hears, guardOf, guards, starts, ran, goes}
+
+-- ---- what a host could be given, and what is said of it
+
+-- any box: what it answers and leaves, on a start and on going on
+pub record Box : Type 0 where
+  pub start : Shape → World → Hears
+  pub go : Shape → ℕ → World → Hears
+
+-- what a host can lend: bytes, and cells of 16 bits
+unfoldable pub allUnder : ℕ → List ℕ → Bool
+allUnder n [] = true
+allUnder n (x ∷ l) = both (ltb x n) (allUnder n l)
+
+unfoldable pub lent : World → Bool
+lent w = both (allUnder 256 (w .storage)) (allUnder 65536 (w .cells))
+
+-- the contracts of `host::start` and `host::go`, for an allowance of 0 to 65,535 command words
+pub record Meets (b : Box) : Type 0 where
+  pub start-so : (g : Shape) (w : World) → lent w ≡ true → b .start g w ≡ starts g w
+  pub go-so : (g : Shape) (n : ℕ) (w : World) → n ≤ 65535 → lent w ≡ true → b .go g n w ≡ goes g n w
+
+abbrev pub ShutOut : Box → Type 0
+ShutOut b = Meets b → ⊥
+
+-- the right one
+unfoldable pub right : Box
+right = record { start = starts; go = goes }
+
+-- a box that makes the refusals as it should, and takes each command word by a step of its own
+unfoldable pub runBy : (World → World) → ℕ → World → World
+runBy one zero w = w
+runBy one (suc n) w = pick (w .held .channel .going) (runBy one n (one w)) w
+
+unfoldable pub steppedBy : (Shape → World → World) → Box
+steppedBy one = record {
+  start = starts;
+  go = λ g n w. guards (guardOf g w) w (pick (w .held .channel .going) (ran (runBy (one g) n w)) (hears NoChain w));
+}
+
+-- ---- "Refusing always": one answer, and all unchanged
+
+unfoldable pub refusesAlways : Answer → Box
+refusesAlways a = record { start = λ g w. hears a w; go = λ g n w. hears a w }
+
+-- ---- "one fixed reply": the chain ended, with one status word whatever the chain
+
+unfoldable pub fixedReply : Status → Box
+fixedReply x = record {
+  start = starts;
+  go = λ g n w. hears ChainEnded (world (rested (w .held .stands)) (stored (w .storage) x) (w .cells));
+}
+
+-- ---- "or doing nothing": it answers like the right one, and leaves all as it was lent
+
+unfoldable pub doesNothing : Box
+doesNothing = record { start = λ g w. hears (starts g w .answer) w; go = λ g n w. hears (goes g n w .answer) w }
+
+-- ---- "Data Check on every read, which demand 3 alone would admit": a read ends with 08 00, and no byte moves
+
+unfoldable pub checksRead : Shape → World → Word → Command → World
+checksRead g w d (Controls c) = obeyed g w d
+checksRead g w d (Searches c) = obeyed g w d
+checksRead g w d (Reads c) =
+    settled g w d
+    (acted (checked (w .held .stands) (w .held .orders) (d .count) Unreadable) (w .storage) (trackAt (w .cells) (under g (w .held))))
+checksRead g w d (Writes c) = obeyed g w d
+checksRead g w d Unknown = obeyed g w d
+
+unfoldable pub takesChecking : Shape → World → Tested → World
+takesChecking g w (Obey d) = checksRead g w d (commandOf (d .code))
+takesChecking g w (Jump a) = takes g w (Jump a)
+takesChecking g w (Bad cause) = takes g w (Bad cause)
+
+unfoldable pub dataChecksReads : Box
+dataChecksReads =
+    steppedBy (λ g w. takesChecking g w (tested (w .storage) (w .held .channel .next) (w .held .channel .«after_tic»)))
+
+-- ---- "Running the whole chain at once and merely counting afterwards": storage and tracks are those after `most` words; the words are
+-- counted, the answer is told from the count, and what is held is what should be held after the allowance
+
+unfoldable pub counted : Shape → ℕ → World → ℕ
+counted g zero w = 0
+counted g (suc k) w = pick (w .held .channel .going) (suc (counted g k (step g w))) 0
+
+unfoldable pub atOnce : Shape → ℕ → ℕ → World → Hears
+atOnce g most n w =
+    hears (pick (leb (counted g most w) n) ChainEnded AllowanceUsed) (world (run g n w .held) (run g most w .storage) (run g most w .cells))
+
+unfoldable pub runsAtOnce : ℕ → Box
+runsAtOnce most = record {
+  start = starts;
+  go = λ g n w. guards (guardOf g w) w (pick (w .held .channel .going) (atOnce g most n w) (hears NoChain w));
+}
+
+-- ---- "An invented count left": it is told from the command word in any way, but not from the bytes that moved
+
+unfoldable pub inventedAfter : (Word → ℕ) → Channel → Word → Done → List ℕ → List ℕ
+inventedAfter left c d x s =
+    pick (goesOn d x) s (stored s (statusFor (c .key) (c .next) (unitStatus (x .ending)) (lengthStatus d x) (left d)))
+
+unfoldable pub settledInventing : (Word → ℕ) → Shape → World → Word → Acted → World
+settledInventing left g w d a =
+    world (settled g w d a .held) (inventedAfter left (w .held .channel) d (a .done) (a .storage)) (settled g w d a .cells)
+
+unfoldable pub takesInventing : (Word → ℕ) → Shape → World → Tested → World
+takesInventing left g w (Obey d) =
+    settledInventing left g w d (acts g (w .held .stands) (w .held .orders) d (w .storage) (trackAt (w .cells) (under g (w .held))))
+takesInventing left g w (Jump a) = takes g w (Jump a)
+takesInventing left g w (Bad cause) = takes g w (Bad cause)
+
+unfoldable pub inventsCount : (Word → ℕ) → Box
+inventsCount left =
+    steppedBy (λ g w. takesInventing left g w (tested (w .storage) (w .held .channel .next) (w .held .channel .«after_tic»)))
+
+-- ---- all six, whatever the answer, the status word, the number of words and the invention
+
+pub record ShutOutAll : Type 0 where
+  pub refusing-always : (a : Answer) → ShutOut (refusesAlways a)
+  pub one-fixed-reply : (x : Status) → ShutOut (fixedReply x)
+  pub doing-nothing : ShutOut doesNothing
+  pub data-check-on-every-read : ShutOut dataChecksReads
+  pub whole-chain-at-once : (k : ℕ) → ShutOut (runsAtOnce (suc (suc k)))
+  pub invented-count-left : (left : Word → ℕ) → ShutOut (inventsCount left)
+
+-- what is said is met, by the right box, and by a box that takes each word by the right step; and it admits one box
+pub record OneBox : Type 0 where
+  pub met : Meets right
+  pub met-by-steps : Meets (steppedBy step)
+  pub same-start : (b b′ : Box) → Meets b → Meets b′ → (g : Shape) (w : World) → lent w ≡ true → b .start g w ≡ b′ .start g w
+  pub same-go : (b b′ : Box) → Meets b → Meets b′
+      → (g : Shape) (n : ℕ) (w : World) → n ≤ 65535 → lent w ≡ true → b .go g n w ≡ b′ .go g n w
