@@ -9,6 +9,8 @@ mod allowance;
 mod appendix_a;
 #[path = "tests/commands.rs"]
 mod commands;
+#[path = "tests/dice.rs"]
+mod dice;
 #[path = "tests/lent.rs"]
 mod lent;
 #[path = "tests/limits.rs"]

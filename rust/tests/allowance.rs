@@ -1,4 +1,5 @@
 // The allowance: how words are counted, a chain that never ends, cutting it into parts, and several threads.
+use crate::dice::Dice;
 use crate::lent::*;
 use crate::track::*;
 use poplar::{Answer, Selection, Shape, TRACK_CELLS};
@@ -62,34 +63,33 @@ pub fn allowance(tally: &mut Tally) {
     }
 }
 
-// A xorshift generator: the same chains in each run.
-struct Dice(u64);
+const WORDS: usize = 7;
 
-impl Dice {
-    fn below(&mut self, n: usize) -> usize {
-        self.0 ^= self.0 << 13;
-        self.0 ^= self.0 >> 7;
-        self.0 ^= self.0 << 17;
-        (self.0 >> 33) as usize % n
-    }
+// Where a word lies, where its bytes lie, whether it may be wrong, and its flags.
+struct Roll {
+    slot: u32,
+    data: u32,
+    rare: bool,
+    flags: u8,
+}
 
-    fn of<T: Copy>(&mut self, choices: &[T]) -> T {
-        choices[self.below(choices.len())]
+impl Roll {
+    fn new(dice: &mut Dice) -> Roll {
+        let slot = (AT + 8 * dice.below(WORDS)) as u32;
+        let data = (DATA + 8 * dice.below(4)) as u32;
+        let rare = dice.below(10) == 0;
+        let flags = match dice.below(20) {
+            0 => 0,
+            1 => CHAIN,
+            _ => BOTH,
+        };
+        Roll { slot, data, rare, flags }
     }
 }
 
-const WORDS: usize = 7;
-
 // Most words chain, suppress incorrect length and are right, so that many chains are still going after seven.
 fn random_word(dice: &mut Dice) -> [u8; 8] {
-    let slot = (AT + 8 * dice.below(WORDS)) as u32;
-    let data = (DATA + 8 * dice.below(4)) as u32;
-    let rare = dice.below(10) == 0;
-    let flags = match dice.below(20) {
-        0 => 0,
-        1 => CHAIN,
-        _ => BOTH,
-    };
+    let Roll { slot, data, rare, flags } = Roll::new(dice);
     match dice.below(12) {
         0..=2 if rare => word(0x03, 0, 0x80, 0),
         0..=2 => word(0x03, 0, flags, 9),
@@ -143,14 +143,7 @@ fn parts(cut: usize) -> Vec<u16> {
 
 // A search or a read of the small track, or what may stand between them.
 fn random_work(dice: &mut Dice) -> [u8; 8] {
-    let slot = (AT + 8 * dice.below(WORDS)) as u32;
-    let sent = (DATA + 8 * dice.below(4)) as u32;
-    let rare = dice.below(10) == 0;
-    let flags = match dice.below(20) {
-        0 => 0,
-        1 => CHAIN,
-        _ => BOTH,
-    };
+    let Roll { slot, data: sent, rare, flags } = Roll::new(dice);
     match dice.below(12) {
         0..=4 => word(dice.of(&[0x39, 0x31, 0x51, 0x71, 0x29, 0x49, 0x69]), sent, flags, dice.of(&[3, 4, 5, 8])),
         // now and then over a word of the chain

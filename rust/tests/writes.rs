@@ -1,5 +1,6 @@
 // The writes: what licenses and what bars each, what it reads first, the cells that it lays, what it leaves held, and how it
 // ends. Every byte and every cell of the pack is compared.
+use crate::dice::Dice;
 use crate::lent::*;
 use crate::sheet::*;
 use crate::track::*;
@@ -732,22 +733,6 @@ pub fn write_far(tally: &mut Tally) {
 }
 
 // ---- writing and reading back
-
-// A xorshift generator: the same records in each run.
-struct Dice(u64);
-
-impl Dice {
-    fn below(&mut self, n: usize) -> usize {
-        self.0 ^= self.0 << 13;
-        self.0 ^= self.0 >> 7;
-        self.0 ^= self.0 << 17;
-        (self.0 >> 33) as usize % n
-    }
-
-    fn bytes(&mut self, n: usize) -> Vec<u8> {
-        (0..n).map(|_| self.below(256) as u8).collect()
-    }
-}
 
 const LARGE: usize = 32768;
 const CHAIN_AT: usize = 1024;
