@@ -108,6 +108,6 @@ pub fn measure() -> Result<Row, String> {
         rounds: ROUNDS,
         proved: medians[0],
         plain: medians[1..].to_vec(),
-        wanted: WANTED,
+        wanted: Some(WANTED),
     })
 }

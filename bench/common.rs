@@ -131,7 +131,7 @@ pub struct Row {
     pub rounds: usize,
     pub proved: f64,
     pub plain: Vec<f64>,
-    pub wanted: f64,
+    pub wanted: Option<f64>,
 }
 
 impl Row {

@@ -278,7 +278,7 @@ pub fn measure() -> Result<Row, String> {
         rounds: ROUNDS,
         proved: medians[0],
         plain: medians[1..].to_vec(),
-        wanted: WANTED,
+        wanted: Some(WANTED),
     })
 }
 

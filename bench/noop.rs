@@ -282,7 +282,7 @@ pub fn measure() -> Result<Row, String> {
         rounds: ROUNDS,
         proved: medians[0].max(medians[1]),
         plain: vec![medians[2]],
-        wanted: WANTED,
+        wanted: Some(WANTED),
     })
 }
 

@@ -20,7 +20,6 @@ const RECORD_CELLS: usize = record_cells(KEY, DATA);
 const SECOND_INDEX: [u8; 2] = [0x00, 0x08];
 
 const ROUNDS: usize = 51;
-const WANTED: f64 = 2.0;
 
 // ---- the chain
 
@@ -211,7 +210,7 @@ pub fn measure() -> Result<Row, String> {
         rounds: ROUNDS,
         proved: medians[0],
         plain: medians[1..].to_vec(),
-        wanted: WANTED,
+        wanted: None,
     })
 }
 

@@ -11,6 +11,11 @@ pub fn machine() -> String {
     format!("{model}, {cores} cores, {}", env!("BENCH_RUSTC"))
 }
 
+// A bar, where one is set.
+fn at_most(wanted: Option<f64>) -> String {
+    wanted.map_or("-".to_string(), |ratio| format!("{ratio:.2}"))
+}
+
 pub fn print_rows(rows: &[Row]) {
     println!("milliseconds, medians of rounds in turn, results all the same; ratio: proved to the faster plain loop");
     println!("{:<8}{:>6}{:>9}{:>9}{:>9}{:>7}{:>9}", "", "rounds", "proved", "shifts", "table", "ratio", "at most");
@@ -18,7 +23,8 @@ pub fn print_rows(rows: &[Row]) {
         let Row { part, what, rounds, proved, plain, wanted } = row;
         let table = plain.get(1).map_or("-".to_string(), |ms| format!("{ms:.2}"));
         let (first, ratio) = (plain[0], row.ratio());
-        println!("{part:<8}{rounds:>6}{proved:>9.2}{first:>9.2}{table:>9}{ratio:>7.2}{wanted:>9.2}   {what}");
+        let most = at_most(*wanted);
+        println!("{part:<8}{rounds:>6}{proved:>9.2}{first:>9.2}{table:>9}{ratio:>7.2}{most:>9}   {what}");
     }
     println!();
 }
@@ -41,7 +47,8 @@ pub fn markdown(rows: &[Row], growths: &[Growth]) {
     println!("| | Rounds | Box | Plain Rust | Ratio | At most |\n|---|---:|---:|---:|---:|---:|");
     for row in rows {
         let Row { what, rounds, proved, wanted, .. } = row;
-        println!("| {what} | {rounds} | {proved:.2} | {:.2} | {:.2} | {wanted:.2} |", row.fastest(), row.ratio());
+        let most = at_most(*wanted);
+        println!("| {what} | {rounds} | {proved:.2} | {:.2} | {:.2} | {most} |", row.fastest(), row.ratio());
     }
     println!("\nHow the box's time grows, {} rounds; a step may take at most {:.1}:\n", growth::ROUNDS, growth::WANTED);
     println!("| n | At n | At 2n | At 4n | Steps |\n|---|---:|---:|---:|---:|");

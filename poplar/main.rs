@@ -1,0 +1,20 @@
+//! The program; its parts are in `lib.rs`.
+use archivist::cli;
+use std::ffi::OsString;
+use std::io::{self, BufWriter, IsTerminal, Write};
+use std::process::ExitCode;
+
+fn main() -> ExitCode {
+    let words: Vec<OsString> = std::env::args_os().skip(1).collect();
+    let mut out = BufWriter::new(io::stdout().lock());
+    let mut err = io::stderr().lock();
+    let mut to = cli::To { out: &mut out, err: &mut err, bar: io::stderr().is_terminal() };
+    let status = cli::run(&words, &mut to);
+    match out.flush() {
+        Ok(()) => ExitCode::from(status),
+        Err(error) => {
+            let _ = writeln!(err, "poplar: what was to be said could not be written: {error}");
+            ExitCode::from(cli::REFUSED)
+        }
+    }
+}
