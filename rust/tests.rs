@@ -78,6 +78,8 @@ const GROUPS: &[Group] = &[
     ("track", track::laid),
     ("look-markers", look::look_markers),
     ("look-areas", look::look_areas),
+    ("look-walk", look::look_walk),
+    ("look-edges", look::look_edges),
     ("look-damage", look::look_damage),
     ("look-wrong-calls", look::look_wrong_calls),
     ("search-home", searches::search_home),

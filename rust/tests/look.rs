@@ -77,7 +77,11 @@ pub fn look_areas(tally: &mut Tally) {
         let what = format!("home address with record {record}");
         tally.same(&what, look(&track, record, Part::Home), Look::Readable(at(&HOME_AREA)));
     }
-    // A walk by the library alone finds every record.
+}
+
+// A walk by the library alone finds every record. Where none begins, what stands there is no readable count.
+pub fn look_walk(tally: &mut Tally) {
+    let track = four();
     let mut records = vec![7];
     let mut place = 7;
     while let Ok(Some(cell)) = poplar::marker(&track, place) {
@@ -85,7 +89,6 @@ pub fn look_areas(tally: &mut Tally) {
         records.push(usize::from(place));
     }
     tally.same("the records", records, RECORDS.to_vec());
-    // Where no record begins, what stands there is no readable count.
     for record in (0..=TRACK_CELLS).filter(|record| !RECORDS.contains(record)) {
         let what = format!("no record at {record}");
         let count = Area { first: record as u32, bytes: 9 };
@@ -93,7 +96,10 @@ pub fn look_areas(tally: &mut Tally) {
         tally.same(&what, look(&track, record, Part::Key), Look::NotKnown);
         tally.same(&what, look(&track, record, Part::Data), Look::NotKnown);
     }
-    // A count that is readable may name areas that reach past the track.
+}
+
+// A count that is readable may name areas that reach past the track; an empty track has no areas.
+pub fn look_edges(tally: &mut Tally) {
     let long = area(&[0x81, 0, 1, 0, 1, 1, 0xFF, 0xFF, 0xFF]);
     for first in [29, TRACK_CELLS - 11] {
         let mut track = sound(&[R0]);
@@ -105,7 +111,6 @@ pub fn look_areas(tally: &mut Tally) {
         tally.same(&what, look(&track, first, Part::Key), Look::Unreadable(key));
         tally.same(&what, look(&track, first, Part::Data), Look::Unreadable(data));
     }
-    // An empty track.
     let empty = vec![0; TRACK_CELLS];
     tally.same("no home address", look(&empty, 7, Part::Home), Look::Unreadable(at(&HOME_AREA)));
     tally.same("no R0", look(&empty, 7, Part::Count), Look::Unreadable(at(&COUNT_0)));
