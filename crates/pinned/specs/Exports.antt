@@ -1,4 +1,6 @@
 -- What the contracts of the exported routines say of an outcome: the result, and what is left of all that was lent. Assumes nothing.
+-- Each statement is the routine's `ensures` word for word, with `x` for what a parameter was at entry and `x′` for what is left of it; tests/claims
+-- compares the two.
 use Prim.Native.Nat.{ℕ}
 use mathlib.Core.Path.{_≡_}
 use mathlib.Core.List.{List}
@@ -19,39 +21,44 @@ pub record Outcome : Type 0 where
   pub storage : List ℕ
   pub cells : List ℕ
 
--- `poplar_fresh`, of the bytes lent: the result and the bytes left
+-- `poplar_fresh`
 abbrev pub FreshSays : List ℕ → ℕ → List ℕ → Type 0
-FreshSays v r x = (r ≡ bit (eqb (length v) heldBytes)) × (x ≡ pick (eqb (length v) heldBytes) (encoded fresh) v)
+FreshSays bytes r bytes′ =
+    (r ≡ bit (eqb (length bytes) heldBytes)) × (bytes′ ≡ pick (eqb (length bytes) heldBytes) (encoded fresh) bytes)
 
--- `poplar_start`, of the numbers of cylinders and heads, held bytes, storage and cells
-abbrev pub StartSays : ℕ → ℕ → List ℕ → List ℕ → List ℕ → Outcome → Type 0
-StartSays cylinders heads v s c x =
-    call (x .result) (x .held) (x .storage) (x .cells) ≡ startCall (shape cylinders heads) v s c
+-- `poplar_start`
+abbrev pub StartSays : ℕ → ℕ → List ℕ → List ℕ → List ℕ → ℕ → List ℕ → List ℕ → List ℕ → Type 0
+StartSays cylinders heads bytes storage cells r bytes′ storage′ cells′ =
+    call r bytes′ storage′ cells′ ≡ startCall (shape cylinders heads) bytes storage cells
 
--- `poplar_go`, with an allowance
-abbrev pub GoSays : ℕ → ℕ → ℕ → List ℕ → List ℕ → List ℕ → Outcome → Type 0
-GoSays cylinders heads allowance v s c x =
-    call (x .result) (x .held) (x .storage) (x .cells) ≡ goCall (shape cylinders heads) allowance v s c
+-- `poplar_go`
+abbrev pub GoSays : ℕ → ℕ → ℕ → List ℕ → List ℕ → List ℕ → ℕ → List ℕ → List ℕ → List ℕ → Type 0
+GoSays cylinders heads allowance bytes storage cells r bytes′ storage′ cells′ =
+    call r bytes′ storage′ cells′ ≡ goCall (shape cylinders heads) allowance bytes storage cells
 
--- `poplar_check`, of the cells lent: the result
+-- `poplar_check`
 abbrev pub CheckSays : List ℕ → ℕ → Type 0
-CheckSays c r = r ≡ check (bytesOf c)
+CheckSays cells r = r ≡ check (bytesOf cells)
 
--- `poplar_marker`, of the track lent and a place: the result
+-- `poplar_marker`
 abbrev pub MarkerSays : List ℕ → ℕ → ℕ → Type 0
-MarkerSays t place r = r ≡ markerCall t place
+MarkerSays track place r = r ≡ markerCall track place
 
--- `poplar_area`, of the track lent, a record, a part and two numbers: the result and the numbers left
+-- `poplar_area`
 abbrev pub AreaSays : List ℕ → ℕ → ℕ → List ℕ → ℕ → List ℕ → Type 0
-AreaSays t c p v r x = looked r x ≡ areaCall t c p v
+AreaSays track «record» part area r area′ = looked r area′ ≡ areaCall track «record» part area
+
+-- the statement of `poplar_start` or `poplar_go`, of an outcome
+abbrev pub Says : (ℕ → List ℕ → List ℕ → List ℕ → Type 0) → Outcome → Type 0
+Says P x = P (x .result) (x .held) (x .storage) (x .cells)
 
 -- any two outcomes that satisfy the statement of a routine coincide
 pub record Pinned : Type 0 where
   pub fresh-pinned : (v : List ℕ) (r r′ : ℕ) (x x′ : List ℕ) → FreshSays v r x → FreshSays v r′ x′ → (r ≡ r′) × (x ≡ x′)
   pub start-pinned : (cylinders heads : ℕ) (v s c : List ℕ) (x x′ : Outcome)
-      → StartSays cylinders heads v s c x → StartSays cylinders heads v s c x′ → x ≡ x′
+      → Says (StartSays cylinders heads v s c) x → Says (StartSays cylinders heads v s c) x′ → x ≡ x′
   pub go-pinned : (cylinders heads allowance : ℕ) (v s c : List ℕ) (x x′ : Outcome)
-      → GoSays cylinders heads allowance v s c x → GoSays cylinders heads allowance v s c x′ → x ≡ x′
+      → Says (GoSays cylinders heads allowance v s c) x → Says (GoSays cylinders heads allowance v s c) x′ → x ≡ x′
   pub check-pinned : (c : List ℕ) (r r′ : ℕ) → CheckSays c r → CheckSays c r′ → r ≡ r′
   pub marker-pinned : (t : List ℕ) (place r r′ : ℕ) → MarkerSays t place r → MarkerSays t place r′ → r ≡ r′
   pub area-pinned : (t : List ℕ) (c p : ℕ) (v : List ℕ) (r r′ : ℕ) (x x′ : List ℕ)
