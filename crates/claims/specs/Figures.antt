@@ -16,10 +16,9 @@ use Rattle.rows.specs.declared.Row.the-variants.{BadSeek}
 use Rattle.rows.specs.Rows.{sense}
 use Rattle.words.specs.Words.{addressWord}
 use Rattle.words.specs.Status.{statusAt}
-use Rattle.pack.specs.declared.Cylinder.{Cylinder}
 use Rattle.pack.specs.declared.Shape.{Shape}
-use Rattle.pack.specs.declared.Sought.the-variants.{Fails}
-use Rattle.pack.specs.Shapes.{stands, seekTo, seekHead}
+use Rattle.pack.specs.declared.Sought.the-variants as Sought
+use Rattle.pack.specs.Shapes.{cylinder, head, seekTo, seekHead}
 use Rattle.compare.specs.declared.Compared.the-variants.{High}
 use Rattle.compare.specs.Compare.{compared}
 use Rattle.held.specs.declared.Stands.{Stands}
@@ -41,9 +40,6 @@ afterZero = endBy zeroFirst (lengths 0 8)
 
 abbrev pub fullPack : Shape
 fullPack = record { cylinders = 203; heads = 10 }
-
-abbrev pub cylinder : ℕ → Cylinder
-cylinder n = record { 0 = n }
 
 -- ---- the box at work
 
@@ -76,7 +72,7 @@ standsOf x = x .left .held .stands
 
 -- where the head stands, and sense
 abbrev pub standsAt : ℕ → ℕ → ℕ → ℕ → ℕ → Stands
-standsAt cc hh place byte0 byte1 = standing (cylinder cc) (record { 0 = hh }) place (sense byte0 byte1)
+standsAt cc hh place byte0 byte1 = standing (cylinder cc) (head hh) place (sense byte0 byte1)
 
 -- 1: at 256 Search HA, count 4, flag 40; at 272 No-op, count 1; at 128 the cylinder and head of the track's home address
 abbrev pub searchThenNoOp : List ℕ
@@ -154,20 +150,20 @@ pub record Figures : Type 0 where
   pub five-20-status : statusOf (maskWord 0x40 0x20) ≡ 0x00 ∷ 0x00 ∷ 0x01 ∷ 0x08 ∷ 0x0E ∷ 0x00 ∷ 0x00 ∷ 0x00 ∷ []
   pub five-20-sense : standsOf (maskWord 0x40 0x20) .sense ≡ sense 0x80 0x00
   -- 6. on a full pack cylinder 202, head 9 accepted
-  pub six : seekTo fullPack 0 202 9 ≡ stands 202 9
+  pub six : seekTo fullPack 0 (cylinder 202) (head 9) ≡ Sought.Stands (cylinder 202) (head 9)
   pub six-going : OnFullPack (λ cells. seekWord cells 202 9 .answer ≡ AllowanceUsed)
   pub six-stands : OnFullPack (λ cells. standsOf (seekWord cells 202 9) ≡ standsAt 202 9 0 0 0)
-  pub six-head : seekHead fullPack (cylinder 202) 9 ≡ stands 202 9
+  pub six-head : seekHead fullPack (cylinder 202) (head 9) ≡ Sought.Stands (cylinder 202) (head 9)
   -- 7. 203 or head 10 not
-  pub seven-cylinder : seekTo fullPack 0 203 9 ≡ Fails BadSeek
+  pub seven-cylinder : seekTo fullPack 0 (cylinder 203) (head 9) ≡ Sought.Fails BadSeek
   pub seven-cylinder-end : OnFullPack (λ cells. seekWord cells 203 9 .answer ≡ ChainEnded)
   pub seven-cylinder-status : OnFullPack (λ cells. statusOf (seekWord cells 203 9) ≡ 0x00 ∷ 0x00 ∷ 0x01 ∷ 0x08 ∷ 0x0E ∷ 0x00 ∷ 0x00 ∷ 0x00 ∷ [])
   pub seven-cylinder-stands : OnFullPack (λ cells. standsOf (seekWord cells 203 9) ≡ standsAt 100 5 7 0x81 0x00)
-  pub seven-head : seekTo fullPack 0 202 10 ≡ Fails BadSeek
+  pub seven-head : seekTo fullPack 0 (cylinder 202) (head 10) ≡ Sought.Fails BadSeek
   pub seven-head-end : OnFullPack (λ cells. seekWord cells 202 10 .answer ≡ ChainEnded)
   pub seven-head-status : OnFullPack (λ cells. statusOf (seekWord cells 202 10) ≡ 0x00 ∷ 0x00 ∷ 0x01 ∷ 0x08 ∷ 0x0E ∷ 0x00 ∷ 0x00 ∷ 0x00 ∷ [])
   pub seven-head-stands : OnFullPack (λ cells. standsOf (seekWord cells 202 10) ≡ standsAt 100 5 7 0x81 0x00)
-  pub seven-head-only : seekHead fullPack (cylinder 202) 10 ≡ Fails BadSeek
+  pub seven-head-only : seekHead fullPack (cylinder 202) (head 10) ≡ Sought.Fails BadSeek
   -- 8. ID 0000000002 on track against 0000000001: high, not equal
   pub eight : compared (number (0 ∷ 0 ∷ 0 ∷ 0 ∷ 2 ∷ [])) (number (0 ∷ 0 ∷ 0 ∷ 0 ∷ 1 ∷ [])) ≡ High
   -- at the level of the box: satisfied is the word 16 on, 272; not satisfied the word 8 on, 264

@@ -16,7 +16,7 @@ use Rattle.pack.specs.declared.Cylinder.{Cylinder}
 use Rattle.pack.specs.declared.Shape.{Shape}
 use Rattle.pack.specs.declared.Sought.{Sought}
 use Rattle.pack.specs.declared.Sought.the-variants as Sought
-use Rattle.pack.specs.Shapes.{seekTo, seekHead}
+use Rattle.pack.specs.Shapes.{cylinder, head, seekTo, seekHead}
 use Rattle.commands.specs.declared.Control.{Control}
 use Rattle.commands.specs.declared.Control.the-variants.{NoOp, SenseBytes, Seeks, SetMask, SpaceRecord}
 use Rattle.commands.specs.Commands.{commandOf, looks, worksHome}
@@ -54,9 +54,9 @@ seekCount = 6
 
 -- what the address in storage comes to
 unfoldable pub soughtAt : Shape → Seeking → Cylinder → List ℕ → ℕ → Sought
-soughtAt g Seeking.Seek c s at = seekTo g (be16 s at) (be16 s (at + 2)) (be16 s (at + 4))
-soughtAt g Seeking.SeekCylinder c s at = seekTo g (be16 s at) (be16 s (at + 2)) (be16 s (at + 4))
-soughtAt g Seeking.SeekHead c s at = seekHead g c (be16 s (at + 4))
+soughtAt g Seeking.Seek c s at = seekTo g (be16 s at) (cylinder (be16 s (at + 2))) (head (be16 s (at + 4)))
+soughtAt g Seeking.SeekCylinder c s at = seekTo g (be16 s at) (cylinder (be16 s (at + 2))) (head (be16 s (at + 4)))
+soughtAt g Seeking.SeekHead c s at = seekHead g c (head (be16 s (at + 4)))
 
 -- bad or short
 unfoldable pub addressed : Shape → Seeking → Cylinder → Word → List ℕ → Sought

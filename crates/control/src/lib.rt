@@ -7,6 +7,7 @@ use mask::Seeking;
 use outcome::Done;
 use outcome::Ending;
 use pack::Cylinder;
+use pack::Head;
 use pack::Shape;
 use pack::Sought;
 use rows::Row;
@@ -77,12 +78,12 @@ fn sought_at(g: Shape, k: Seeking, c: Cylinder, storage: &[u8], at: usize) -> So
     ensures { λ r. ⌜ r ≡ soughtAt g k c (now (storage .entry)) at ⌝ }
 {
     let bb = two(storage, at);
-    let cc = two(storage, at + 2);
-    let hh = two(storage, at + 4);
+    let cylinder = Cylinder(two(storage, at + 2));
+    let head = Head(two(storage, at + 4));
     match k {
-        Seeking::Seek => pack::seek_to(g, bb, cc, hh),
-        Seeking::SeekCylinder => pack::seek_to(g, bb, cc, hh),
-        Seeking::SeekHead => pack::seek_head(g, c, hh),
+        Seeking::Seek => pack::seek_to(g, bb, cylinder, head),
+        Seeking::SeekCylinder => pack::seek_to(g, bb, cylinder, head),
+        Seeking::SeekHead => pack::seek_head(g, c, head),
     }
 }
 

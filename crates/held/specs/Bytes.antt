@@ -7,6 +7,7 @@ use lib.Dec.{ltb, eqb}
 use Rattle.cells.specs.Choice.{pick, both}
 use Rattle.cells.specs.Bytes.{be16, be24}
 use Rattle.rows.specs.Rows.{sense}
+use Rattle.pack.specs.Shapes.{cylinder, head}
 use Rattle.hunt.specs.declared.Spot.the-variants.{Zero, Marker}
 use Rattle.held.specs.declared.Selection.{Selection}
 use Rattle.held.specs.declared.Selection.the-variants.{Nothing, On}
@@ -125,8 +126,8 @@ be32 v at = getD v at 0 * 16777216 + be24 v (at + 1)
 unfoldable pub decoded : List ℕ → Held
 decoded v = record {
   stands = record {
-    cylinder = record { 0 = be16 v 14 };
-    head = record { 0 = be16 v 16 };
+    cylinder = cylinder (be16 v 14);
+    head = head (be16 v 16);
     place = be16 v 18;
     sense = sense (getD v 4 0) (getD v 5 0);
   };

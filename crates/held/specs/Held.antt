@@ -1,6 +1,7 @@
 -- Document 01, "Where the head stands" and "Commands": what the box holds from call to call. Assumes nothing.
 use mathlib.Core.Bool.{false}
 use Rattle.rows.specs.Rows.{sense}
+use Rattle.pack.specs.Shapes.{cylinder, head}
 use Rattle.held.specs.declared.Selection.the-variants.{Nothing}
 use Rattle.held.specs.declared.Stands.{Stands}
 use Rattle.held.specs.declared.Orders.{Orders}
@@ -9,7 +10,7 @@ use Rattle.held.specs.declared.Held.{Held}
 
 -- a fresh box stands at cylinder 0, head 0, place 0, with mask 0, sense all zero and no chain going
 unfoldable pub freshStands : Stands
-freshStands = record { cylinder = record { 0 = 0 }; head = record { 0 = 0 }; place = 0; sense = sense 0 0 }
+freshStands = record { cylinder = cylinder 0; head = head 0; place = 0; sense = sense 0 0 }
 
 -- each chain starts with mask 0, none set yet, no selection, no command before and index tally 0
 unfoldable pub freshOrders : Orders

@@ -28,10 +28,10 @@ use Rattle.host.specs.Host.{storageFits, standsFit, ordersFit, channelFi
 pub stands-standing : (g : Shape) (s : Stands) → standsFit g s ≡ true → Standing g s
 unfolding standsFit
 stands-standing g s e =
-    let f = second-of (cylinderOn g (s .cylinder .0)) _ e in
+    let f = second-of (cylinderOn g (s .cylinder)) _ e in
     record {
-      on = record { cylinder = ltb-true _ _ (first-of (cylinderOn g (s .cylinder .0)) _ e); head = ltb-true _ _ (first-of (headOn g (s .head .0)) _ f) };
-      place = leb-true _ _ (second-of (headOn g (s .head .0)) _ f);
+      on = record { cylinder = ltb-true _ _ (first-of (cylinderOn g (s .cylinder)) _ e); head = ltb-true _ _ (first-of (headOn g (s .head)) _ f) };
+      place = leb-true _ _ (second-of (headOn g (s .head)) _ f);
     }
 
 standing-stands : (g : Shape) (s : Stands) → Standing g s → standsFit g s ≡ true

@@ -57,7 +57,7 @@ storageFits n = both (leb leastStorage n) (leb n addresses)
 -- 4: off the pack, place over 4,096
 unfoldable pub standsFit : Shape → Stands → Bool
 standsFit g s =
-    both (cylinderOn g (s .cylinder .0)) (both (headOn g (s .head .0)) (leb (s .place) trackCells))
+    both (cylinderOn g (s .cylinder)) (both (headOn g (s .head)) (leb (s .place) trackCells))
 
 -- illegal mask, tally over 1, a selection that does not fit
 unfoldable pub ordersFit : List Bool → Orders → Bool

@@ -56,11 +56,6 @@ nextRecord m p = aheadOr (hunt m p) (pastIndex (hunt m firstMarker))
 unfoldable pub nextId : List Bool → ℕ → Next
 nextId m p = pick (ltb p firstMarker) (Stands Zero 0) (aheadOr (hunt m p) (Stands Zero 1))
 
--- index points that were passed on the way
-unfoldable pub passed : Next → ℕ
-passed (Stands s n) = n
-passed NoMarker = 1
-
 -- the place after the next marker was passed without reading; with no marker at all, past the index, 7
 unfoldable pub spacedTo : Next → ℕ
 spacedTo (Stands s n) = countFirst s

@@ -2,7 +2,7 @@
 ghost use mathlib.Core.Path.{_≡_};
 ghost use Prim.Native.Nat.{max};
 ghost use Rattle.cells.specs.Cells.{marks, markAt};
-ghost use Rattle.hunt.specs.Hunt.{Whole, hunt, countFirst, nextRecord, nextId, passed, spaceRecord};
+ghost use Rattle.hunt.specs.Hunt.{Whole, hunt, countFirst, nextRecord, nextId, spaceRecord};
 
 // The cell of a marker, or that there is none.
 pub enum Found {
@@ -110,15 +110,5 @@ pub fn space_record(track: &[u16], place: u16, after_home: bool) -> u32
     match next_record(track, place) {
         Next::Stands(spot, _) => count_first(spot),
         Next::NoMarker => 7,
-    }
-}
-
-// The index points passed on the way to a record.
-pub fn index_passed(next: Next) -> u8
-    ensures { λ r. ⌜ r ≡ passed next ⌝ }
-{
-    match next {
-        Next::Stands(_, n) => n,
-        Next::NoMarker => 1,
     }
 }

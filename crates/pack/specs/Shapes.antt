@@ -7,6 +7,7 @@ use Rattle.cells.specs.Choice.{pick, both}
 use Rattle.cells.specs.Cells.{trackCells}
 use Rattle.rows.specs.declared.Row.the-variants.{BadSeek}
 use Rattle.pack.specs.declared.Cylinder.{Cylinder}
+use Rattle.pack.specs.declared.Head.{Head}
 use Rattle.pack.specs.declared.Shape.{Shape}
 use Rattle.pack.specs.declared.Sought.{Sought}
 use Rattle.pack.specs.declared.Sought.the-variants.{Stands, Fails}
@@ -26,23 +27,24 @@ packFits g n =
     both (from1To mostCylinders (g .cylinders))
     (both (from1To mostHeads (g .heads)) (eqb n (g .cylinders * g .heads * trackCells)))
 
-abbrev pub cylinderOn : Shape → ℕ → Bool
-cylinderOn g cc = ltb cc (g .cylinders)
+abbrev pub cylinder : ℕ → Cylinder
+cylinder n = record { 0 = n }
 
-abbrev pub headOn : Shape → ℕ → Bool
-headOn g hh = ltb hh (g .heads)
+abbrev pub head : ℕ → Head
+head n = record { 0 = n }
+
+abbrev pub cylinderOn : Shape → Cylinder → Bool
+cylinderOn g c = ltb (c .0) (g .cylinders)
+
+abbrev pub headOn : Shape → Head → Bool
+headOn g h = ltb (h .0) (g .heads)
 
 -- ---- a seek's address, BB CC HH: where the head then stands, or the Unit Check row
 
--- accepted: the cylinder and head to stand at
-abbrev pub stands : ℕ → ℕ → Sought
-stands cc hh = Stands (record { 0 = cc }) (record { 0 = hh })
-
 -- Seek and Seek Cylinder: BB = 0, CC and HH on the pack
-unfoldable pub seekTo : Shape → ℕ → ℕ → ℕ → Sought
-seekTo g bb cc hh =
-    pick (both (eqb bb 0) (both (cylinderOn g cc) (headOn g hh))) (stands cc hh) (Fails BadSeek)
+unfoldable pub seekTo : Shape → ℕ → Cylinder → Head → Sought
+seekTo g bb c h = pick (both (eqb bb 0) (both (cylinderOn g c) (headOn g h))) (Stands c h) (Fails BadSeek)
 
 -- Seek Head tests and uses HH only
-unfoldable pub seekHead : Shape → Cylinder → ℕ → Sought
-seekHead g c hh = pick (headOn g hh) (Stands c (record { 0 = hh })) (Fails BadSeek)
+unfoldable pub seekHead : Shape → Cylinder → Head → Sought
+seekHead g c h = pick (headOn g h) (Stands c h) (Fails BadSeek)

@@ -6,7 +6,6 @@ use mathlib.Core.List.{List}
 use lib.ListN.{length}
 use Rattle.cells.specs.Bytes.{part, overlay}
 use Rattle.cells.specs.Cells.{trackCells}
-use Rattle.recording.specs.Recording.{wiped}
 use Rattle.pack.specs.declared.Cylinder.{Cylinder}
 use Rattle.pack.specs.declared.Head.{Head}
 use Rattle.pack.specs.declared.Shape.{Shape}
@@ -37,7 +36,3 @@ trackAt cells start = part cells start trackCells
 -- the pack with that track put in the place of the one that was there
 unfoldable pub withTrack : List ℕ → ℕ → List ℕ → List ℕ
 withTrack cells start t = overlay cells start t
-
--- the pack with gaps from a cell of one track to that track's end
-unfoldable pub wipedTrack : Shape → List ℕ → Cylinder → Head → ℕ → List ℕ
-wipedTrack g cells c h from = withTrack cells (startOf g c h) (wiped (trackAt cells (startOf g c h)) from)

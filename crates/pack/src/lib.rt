@@ -1,10 +1,10 @@
-// A pack of tracks, lent as one slice of cells: its shape, a seek's address, and the selected track lent on.
+// A pack of tracks, lent as one slice of cells: its shape, a seek's address, and where a track lies.
 use rows::Row;
 ghost use mathlib.Core.Path.{_≡_};
 ghost use Prim.Native.Nat.{_+_, _*_, _≤_};
 ghost use Rattle.cells.specs.Cells.{trackCells};
 ghost use Rattle.pack.specs.Shapes.{from1To, packFits, seekTo, seekHead, mostCylinders, mostHeads};
-ghost use Rattle.pack.specs.Tracks.{Whole, On, startOf, wipedTrack};
+ghost use Rattle.pack.specs.Tracks.{On, startOf};
 
 pub struct Cylinder(pub u16);
 
@@ -54,29 +54,29 @@ pub fn pack_fits(g: Shape, count: usize) -> bool
 }
 
 // Where Seek and Seek Cylinder go.
-pub fn seek_to(g: Shape, bb: u16, cc: u16, hh: u16) -> Sought
-    ensures { λ r. ⌜ r ≡ seekTo g bb cc hh ⌝ }
+pub fn seek_to(g: Shape, bb: u16, c: Cylinder, h: Head) -> Sought
+    ensures { λ r. ⌜ r ≡ seekTo g bb c h ⌝ }
 {
     if bb != 0 {
         return Sought::Fails(Row::BadSeek);
     }
-    if g.cylinders <= cc as u32 {
+    if g.cylinders <= c.0 as u32 {
         return Sought::Fails(Row::BadSeek);
     }
-    if g.heads <= hh as u32 {
+    if g.heads <= h.0 as u32 {
         return Sought::Fails(Row::BadSeek);
     }
-    Sought::Stands(Cylinder(cc), Head(hh))
+    Sought::Stands(c, h)
 }
 
 // Where Seek Head goes, from a cylinder.
-pub fn seek_head(g: Shape, c: Cylinder, hh: u16) -> Sought
-    ensures { λ r. ⌜ r ≡ seekHead g c hh ⌝ }
+pub fn seek_head(g: Shape, c: Cylinder, h: Head) -> Sought
+    ensures { λ r. ⌜ r ≡ seekHead g c h ⌝ }
 {
-    if g.heads <= hh as u32 {
+    if g.heads <= h.0 as u32 {
         return Sought::Fails(Row::BadSeek);
     }
-    Sought::Stands(c, Head(hh))
+    Sought::Stands(c, h)
 }
 
 // The first cell of a track.
@@ -88,13 +88,4 @@ pub fn start_of(g: Shape, c: Cylinder, h: Head) -> usize
     let head = h.0 as usize;
     let heads = g.heads as usize;
     (cylinder * heads + head) * 4096
-}
-
-// Gaps from a cell of one track to that track's end: the track's cells are lent on, and no others.
-pub fn wipe_track(g: Shape, cells: &mut [u16], c: Cylinder, h: Head, from: usize)
-    requires { ⌜ Whole g (now cells) × On g c h ⌝ }
-    ensures { λ _. ⌜ now (cells .exit) ≡ wipedTrack g (now (cells .entry)) c h from ⌝ }
-{
-    let start = start_of(g, c, h);
-    recording::wipe(&mut cells[start..start + 4096], from);
 }

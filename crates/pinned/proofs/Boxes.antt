@@ -41,7 +41,7 @@ use Rattle.host.specs.Host.{Hears, hears, storageFits, standsFit, ordersFit, ch
 use Rattle.sound.specs.Tracks.{filled, home, count, zeroth, alone}
 use Rattle.claims.specs.Figures.{word, storageWith, onePack, zeroTrack, searchThenNoOp}
 use Rattle.claims.proofs.Pinned.{one-outcome}
-use Rattle.pinned.specs.Boxes.{allUnder, lent, right, runBy, steppedBy, refusesAlways, fixedReply, doesNothing, checksRead, takesChecking, dataChecksReads, counted, atOnce, runsAtOnce, inventedAfter, settledInventing, takesInventing, inventsCount, ShutOutAll, OneBox}
+use Rattle.pinned.specs.Boxes.{allUnder, lent, right, runBy, steppedBy, refusesAlways, replied, fixedReply, doesNothing, checksRead, takesChecking, dataChecksReads, counted, atOnce, runsAtOnce, inventedAfter, settledInventing, takesInventing, inventsCount, ShutOutAll, OneBox}
 
 -- ---- chains to tell them by, each begun on a box that was fresh
 
@@ -66,7 +66,7 @@ abbrev twoWords : World
 twoWords = world (beginning fresh 0 256) searchThenNoOp alone
 
 pub shut-out : ShutOutAll
-unfolding numberFrom part overlay bytesOf cellsOf allBytes Check.step feed byteBits bits check Area.checked agrees goodCells laid areaCells readable areaBytes rowOf legal movedBy wordAt testedCommand testedWord tested stored statusFor packFits startOf trackAt compared readOf writeOf searchOf commandOf selects freshStands freshOrders freshChannel fresh rested checked workReads allRead gets seeing saw searchWork readWork homeJob searchPlan readPlan fieldOf howOf comparison satisfies found searched searchGot searchBy searches isEmpty moved readGot readBy reads noOp controls unitStatus endsWell stride wrongLength goesOn onward heldAfter statusAfter storageAfter obeys acts under settled obeyed takes step run selectionFits storageFits standsFit ordersFit channelFits heldFits guardOf guards beginning ran goes filled home count zeroth alone allUnder lent runBy steppedBy refusesAlways fixedReply doesNothing checksRead takesChecking dataChecksReads counted atOnce runsAtOnce inventedAfter settledInventing takesInventing inventsCount
+unfolding numberFrom part overlay bytesOf cellsOf allBytes Check.step feed byteBits bits check Area.checked agrees goodCells laid areaCells readable areaBytes rowOf legal movedBy wordAt testedCommand testedWord tested stored statusFor packFits startOf trackAt compared readOf writeOf searchOf commandOf selects freshStands freshOrders freshChannel fresh rested checked workReads allRead gets seeing saw searchWork readWork homeJob searchPlan readPlan fieldOf howOf comparison satisfies found searched searchGot searchBy searches isEmpty moved readGot readBy reads noOp controls unitStatus endsWell stride wrongLength goesOn onward heldAfter statusAfter storageAfter obeys acts under settled obeyed takes step run selectionFits storageFits standsFit ordersFit channelFits heldFits guardOf guards beginning ran goes filled home count zeroth alone allUnder lent runBy steppedBy refusesAlways replied fixedReply doesNothing checksRead takesChecking dataChecksReads counted atOnce runsAtOnce inventedAfter settledInventing takesInventing inventsCount
 shut-out = record {
   refusing-always = λ a m.
       let z : _≡_ {A = ℕ} 0 0x4C = ap (byteLeft 68) (m .go-so onePack 1 (homeSought alone) (lit≤ tt) refl) in

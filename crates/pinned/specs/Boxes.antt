@@ -72,12 +72,15 @@ steppedBy one = record {
 unfoldable pub refusesAlways : Answer → Box
 refusesAlways a = record { start = λ g w. hears a w; go = λ g n w. hears a w }
 
--- ---- "one fixed reply": the chain ended, with one status word whatever the chain
+-- ---- "one fixed reply": the refusals as they should be; else the chain ended, with one status word whatever the chain
+
+unfoldable pub replied : Status → World → Hears
+replied x w = hears ChainEnded (world (rested (w .held .stands)) (stored (w .storage) x) (w .cells))
 
 unfoldable pub fixedReply : Status → Box
 fixedReply x = record {
   start = starts;
-  go = λ g n w. hears ChainEnded (world (rested (w .held .stands)) (stored (w .storage) x) (w .cells));
+  go = λ g n w. guards (guardOf g w) w (pick (w .held .channel .going) (replied x w) (hears NoChain w));
 }
 
 -- ---- "or doing nothing": it answers like the right one, and leaves all as it was lent
@@ -106,7 +109,8 @@ dataChecksReads =
     steppedBy (λ g w. takesChecking g w (tested (w .storage) (w .held .channel .next) (w .held .channel .«after_tic»)))
 
 -- ---- "Running the whole chain at once and merely counting afterwards": storage and tracks are those after `most` words; the words are
--- counted, the answer is told from the count, and what is held is what should be held after the allowance
+-- counted, the answer is told from the count, and what is held is what should be held after the allowance. For a chain that ends within
+-- `most` words the answer and what is held are right
 
 unfoldable pub counted : Shape → ℕ → World → ℕ
 counted g zero w = 0
@@ -142,7 +146,7 @@ unfoldable pub inventsCount : (Word → ℕ) → Box
 inventsCount left =
     steppedBy (λ g w. takesInventing left g w (tested (w .storage) (w .held .channel .next) (w .held .channel .«after_tic»)))
 
--- ---- all six, whatever the answer, the status word, the number of words and the invention
+-- ---- all six, whatever the answer, the status word, the number of words (from two on) and the invention
 
 pub record ShutOutAll : Type 0 where
   pub refusing-always : (a : Answer) → ShutOut (refusesAlways a)

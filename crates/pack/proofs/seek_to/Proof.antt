@@ -1,4 +1,5 @@
 -- `pack::seek_to` meets its contract: it makes the model's tests, in their order. Assumes nothing.
+use borrow.Author.Needs.{needs}
 use Rattle.cells.proofs.Tests.{tests}
 use Rattle.pack.specs.Shapes.{seekTo}
 use Rattle.pack.proofs.seek_to.Statement.{statement}
@@ -8,9 +9,15 @@ returns : tie.Need-returns
 unfolding seekTo
 returns c = search tests
 
+cast-cylinder : tie.Need-cast-if2
+cast-cylinder c = search needs
+
 returns-2 : tie.Need-returns-2
 unfolding seekTo
 returns-2 c = search tests
+
+cast-head : tie.Need-cast-if3
+cast-head c = search needs
 
 returns-3 : tie.Need-returns-3
 unfolding seekTo
@@ -21,4 +28,4 @@ unfolding seekTo
 returns-4 c = search tests
 
 pub seek-to-spec : {M : Type 1} → statement M
-seek-to-spec = tie.close (tie.spec returns returns-2 returns-3 returns-4)
+seek-to-spec = tie.close (tie.spec returns cast-cylinder returns-2 cast-head returns-3 returns-4)
