@@ -120,7 +120,8 @@ enum poplar_part {
 
 /* What poplar_area answers. An area is readable when all its cells lie on the track, are bytes, and the check agrees. */
 enum poplar_look {
-    POPLAR_WRONG_CALL = 0, /* track not 4,096 cells, area not 2 elements, part over 3, or record over 4,096 */
+    POPLAR_WRONG_CALL = 0, /* track not 4,096 cells, area not 2 elements, part over 3, or record over 4,096 (but not
+                              for POPLAR_HOME, which is of no record) */
     POPLAR_READABLE = 1,
     POPLAR_UNREADABLE = 2,
     POPLAR_ABSENT = 3,     /* there is no such area: the key where KL is 0 */

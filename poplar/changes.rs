@@ -13,24 +13,30 @@ fn name(piece: &Piece) -> String {
     }
 }
 
-/// The changed cells of each track, by what lies there now.
+/// The changed cells of a piece, of those that are its own.
+fn tell_piece(piece: &Piece, changed: usize, own: usize) -> String {
+    let at = cells(piece.first, piece.end);
+    let told = format!("{} ({at}): {changed} of {} changed", name(piece), counted(own, "cell"));
+    match piece.end - piece.first - own {
+        0 => told,
+        under => format!("{told}; {under} more lie under other records"),
+    }
+}
+
+/// The changed cells of each track, by what lies there now; where areas go over one another, by the one that is drawn.
 pub fn tell_cells(before: &Pack, after: &Pack, out: &mut dyn Write) -> Result<()> {
     let mut all = 0;
     for ((cylinder, head, old), (_, _, new)) in before.tracks().zip(after.tracks()) {
         if old == new {
             continue;
         }
-        for piece in &Survey::of(new)?.pieces {
-            let changed = (piece.first..piece.end).filter(|&cell| old[cell] != new[cell]).count();
+        let survey = Survey::of(new)?;
+        let uppermost = survey.uppermost();
+        for (number, piece) in survey.pieces.iter().enumerate() {
+            let own: Vec<usize> = (piece.first..piece.end).filter(|&cell| uppermost[cell] == number).collect();
+            let changed = own.iter().filter(|&&cell| old[cell] != new[cell]).count();
             if changed > 0 {
-                let at = cells(piece.first, piece.end);
-                let of = piece.end - piece.first;
-                let what = name(piece);
-                writeln!(
-                    out,
-                    "  cylinder {cylinder}, head {head}, {what} ({at}): {changed} of {} changed",
-                    counted(of, "cell")
-                )?;
+                writeln!(out, "  cylinder {cylinder}, head {head}, {}", tell_piece(piece, changed, own.len()))?;
             }
             all += changed;
         }

@@ -1,4 +1,5 @@
 //! One track as the library finds it: every marker, and every area with its place and whether it is readable.
+use crate::words::counted;
 use poplar::{area, marker, Area, Look, Part, WrongCall, R0, TRACK_CELLS};
 use std::fmt;
 
@@ -15,6 +16,17 @@ pub enum Lies {
     Marker(Record),
     Area(Part, Option<Record>, Area, bool),
     Gap,
+}
+
+impl Lies {
+    /// What is drawn over what: a readable area over one that is not and runs into it, a marker over both.
+    fn layer(self) -> usize {
+        match self {
+            Lies::Gap => 0,
+            Lies::Area(_, _, _, readable) => 1 + usize::from(readable),
+            Lies::Marker(_) => 3,
+        }
+    }
 }
 
 #[derive(Clone, Copy)]
@@ -37,7 +49,10 @@ pub struct Survey {
     pub pieces: Vec<Piece>,
     pub faults: Vec<Fault>,
     pub records: usize,
+    /// All areas: readable, not readable, and those that cannot be found.
     pub areas: usize,
+    /// The cells of gaps that are not 0.
+    pub stray: Vec<usize>,
 }
 
 /// Bytes of a check, which follow those of its area.
@@ -59,7 +74,29 @@ impl Survey {
         }
         survey.pieces.sort_by_key(|piece| piece.first);
         survey.add_gaps();
+        survey.stray = survey.gap_cells().filter(|&cell| track[cell] != 0).collect();
         Ok(survey)
+    }
+
+    fn gap_cells(&self) -> impl Iterator<Item = usize> + '_ {
+        self.pieces.iter().filter(|piece| piece.lies == Lies::Gap).flat_map(|piece| piece.first..piece.end)
+    }
+
+    /// The numbers of the pieces, from the undermost on.
+    pub fn layers(&self) -> Vec<usize> {
+        let mut numbers: Vec<usize> = (0..self.pieces.len()).collect();
+        numbers.sort_by_key(|&number| self.pieces[number].lies.layer());
+        numbers
+    }
+
+    /// For each cell the number of the uppermost piece there.
+    pub fn uppermost(&self) -> Vec<usize> {
+        let mut uppermost = vec![0; TRACK_CELLS];
+        for number in self.layers() {
+            let piece = &self.pieces[number];
+            uppermost[piece.first..piece.end].fill(number);
+        }
+        uppermost
     }
 
     /// The cell in the middle of an area of a record, if it lies there.
@@ -76,7 +113,9 @@ impl Survey {
     }
 
     fn look(&mut self, track: &[u16], part: Part, record: Option<Record>, at: u16) -> Result<(), WrongCall> {
-        match area(track, at, part)? {
+        let found = area(track, at, part)?;
+        self.areas += usize::from(found != Look::Absent);
+        match found {
             Look::Readable(area) => self.add(part, record, area, true),
             Look::Unreadable(area) => {
                 self.add(part, record, area, false);
@@ -89,7 +128,6 @@ impl Survey {
     }
 
     fn add(&mut self, part: Part, record: Option<Record>, area: Area, readable: bool) {
-        self.areas += 1;
         let (first, end) = ends(area);
         self.pieces.push(Piece { lies: Lies::Area(part, record, area, readable), first, end });
     }
@@ -150,6 +188,24 @@ pub fn area_name(part: Part, record: Option<Record>) -> String {
     }
 }
 
+/// What was counted, in words.
+impl fmt::Display for Survey {
+    fn fmt(&self, f: &mut fmt::Formatter) -> fmt::Result {
+        write!(f, "{}, {}, ", counted(self.records, "marker"), counted(self.areas, "area"))?;
+        match self.faults.len() {
+            0 => write!(f, "all readable"),
+            number => write!(f, "{number} not readable"),
+        }
+    }
+}
+
+impl Fault {
+    /// Whether some of it lies on the track, so that it is a piece of its own.
+    pub fn is_piece(&self) -> bool {
+        self.area.is_some_and(|area| (area.first as usize) < TRACK_CELLS)
+    }
+}
+
 impl fmt::Display for Fault {
     fn fmt(&self, f: &mut fmt::Formatter) -> fmt::Result {
         write!(f, "{}", area_name(self.part, self.record))?;
@@ -158,7 +214,7 @@ impl fmt::Display for Fault {
         }
         let Some(area) = self.area else { return write!(f, ": cannot be found, its count is not readable") };
         let (first, end) = ends(area);
-        if area.first as usize >= TRACK_CELLS {
+        if !self.is_piece() {
             return write!(f, ": lies past the end of the track");
         }
         write!(f, ": {}, not readable", cells(first, end))?;

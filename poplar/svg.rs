@@ -203,21 +203,15 @@ pub fn draw(title: &str, track: &[u16], survey: &Survey) -> String {
          {STYLE}{PATTERNS}<rect width='{WIDTH}' height='{height}' fill='white'/>\n\
          <text class='title' x='{LEFT}' y='34'>{title}</text>"
     );
-    let (markers, areas) = (counted(survey.records, "marker"), counted(survey.areas, "area"));
-    let faults = survey.faults.len();
     let _ = writeln!(
         picture,
-        "<text x='{LEFT}' y='54'>{markers}, {areas}, {faults} not readable; {STRIP} cells a strip</text>"
+        "<text x='{LEFT}' y='54'>{survey}; R1, R2, .. are counted along the track; {STRIP} cells a strip</text>"
     );
-    for lies in &survey.pieces {
-        piece(lies, track, &mut picture);
+    for number in survey.layers() {
+        piece(&survey.pieces[number], track, &mut picture);
     }
     for gap in survey.pieces.iter().filter(|lies| lies.lies == Lies::Gap) {
         not_zero(gap, track, &mut picture);
-    }
-    // What is not readable lies over what it runs into.
-    for lies in survey.pieces.iter().filter(|lies| matches!(lies.lies, Lies::Area(_, _, _, false) | Lies::Marker(_))) {
-        piece(lies, track, &mut picture);
     }
     record_names(survey, &mut picture);
     (0..STRIPS).for_each(|strip| scale(strip, &mut picture));

@@ -1,15 +1,16 @@
 //! A readable text of command words, made into a storage image.
 use crate::refusal::{Refusal, Result};
 use crate::words;
-use std::collections::HashMap;
+use std::collections::{BTreeMap, HashMap};
 
 pub const HELP: &str = "\
-A text of words is read line by line; # begins a comment. A name and a colon before a line name its address. Numbers are
-decimal, or hex after 0x. Words and bytes go one after another from 256 on; a command word goes to a multiple of 8.
+A text of words is read line by line; # begins a comment. A name and a colon before a line name its address; they may
+stand alone on a line before it. Numbers are decimal, or hex after 0x. Words and bytes go one after another from 256 on,
+none over another; a command word goes to a multiple of 8.
 
   storage N                        bytes of storage, 80 to 16,777,216; 4,096 if not said
   key N                            the key of the address word, 0 to 15; 0 if not said
-  at N                             go on at this address, 80 or more
+  at N                             go on at this address, 80 or more; also back, to room that is not used yet
   COMMAND ADDRESS COUNT [chain] [any-length]
                                    a command word: its name or its code in hex, a number or a name, a number, flags
   tic ADDRESS                      a transfer in channel
@@ -17,7 +18,7 @@ decimal, or hex after 0x. Words and bytes go one after another from 256 on; a co
                                    address 0, count 1
   bytes HH HH ..                   bytes in hex
   text \"..\"                        the characters, in ASCII
-  zeros N                          go on so many bytes further; storage is zero where nothing is laid
+  zeros N                          so many bytes of zero, as storage also is where nothing is laid
 
 The chain begins at the line named start, else at the first command word. Command names:";
 
@@ -42,13 +43,18 @@ struct Line {
     item: Item,
 }
 
+#[derive(Default)]
 struct Text {
     size: usize,
     key: u8,
     at: usize,
     first: Option<usize>,
     names: HashMap<String, usize>,
+    /// Names whose line is still to come: it may be a word, and go to a multiple of 8.
+    waiting: Vec<String>,
     lines: Vec<Line>,
+    /// What is laid: from each of these addresses up to another, by a line.
+    laid: BTreeMap<usize, (usize, usize)>,
 }
 
 const ADDRESS_WORD: usize = 72;
@@ -136,16 +142,32 @@ impl Text {
             Item::Bytes(bytes) => bytes.len(),
         };
         if self.size - self.at < len {
-            return fault(
-                &format!("{len} bytes at {}", self.at),
-                format_args!("room in the {} bytes of storage", self.size),
-            );
+            return fault(&self.next(len), format_args!("room in the {} bytes of storage", self.size));
         }
         if matches!(item, Item::Word { .. }) {
             self.first.get_or_insert(self.at);
         }
         self.lines.push(Line { number, at: self.at, item });
-        self.at += len;
+        self.take(number, len)
+    }
+
+    fn next(&self, len: usize) -> String {
+        format!("{} at {}", words::counted(len, "byte"), self.at)
+    }
+
+    /// The next bytes of storage are laid by this line, and not by an earlier one.
+    fn take(&mut self, number: usize, len: usize) -> Parsed<()> {
+        self.settle();
+        let end = self.at + len;
+        if let Some((_, &(laid, line))) = self.laid.range(..end).next_back() {
+            if laid > self.at && len > 0 {
+                return fault(&self.next(len), format_args!("room that is not used yet; line {line} uses it"));
+            }
+        }
+        if len > 0 {
+            self.laid.insert(self.at, (end, number));
+        }
+        self.at = end;
         Ok(())
     }
 
@@ -153,9 +175,20 @@ impl Text {
         if !is_name(name) {
             return fault(name, "a name of letters, digits and hyphens before the colon");
         }
-        match self.names.insert(name.to_string(), self.at) {
-            Some(_) => fault(name, "a name that is not taken"),
-            None => Ok(()),
+        if self.at == MOST {
+            return fault(name, format_args!("a name of an address below {MOST}, but here storage ends"));
+        }
+        if self.names.insert(name.to_string(), self.at).is_some() {
+            return fault(name, "a name that is not taken");
+        }
+        self.waiting.push(name.to_string());
+        Ok(())
+    }
+
+    /// The names that wait are of this address.
+    fn settle(&mut self) {
+        for name in self.waiting.drain(..) {
+            self.names.insert(name, self.at);
         }
     }
 
@@ -189,16 +222,22 @@ impl Text {
                 self.place(number_of, Item::Bytes(bytes?))
             }
             ("text", _) => self.place(number_of, Item::Bytes(quoted(rest)?)),
+            ("zeros", _) => {
+                let len = number(rest, 0, self.size - self.at)?;
+                self.take(number_of, len)
+            }
             _ => self.setting(head, rest),
         }
     }
 
     fn setting(&mut self, head: &str, rest: &str) -> Parsed<()> {
         match head {
-            "zeros" => self.at += number(rest, 0, self.size - self.at)?,
-            "at" => self.at = number(rest, FREE, self.size)?,
+            "at" => {
+                self.settle();
+                self.at = number(rest, FREE, self.size)?;
+            }
             "key" => self.key = number(rest, 0, 15)? as u8,
-            "storage" if self.lines.is_empty() => {
+            "storage" if self.lines.is_empty() && self.laid.is_empty() => {
                 self.size = number(rest, FREE, MOST)?;
                 self.at = self.at.min(self.size);
             }
@@ -240,10 +279,11 @@ pub fn storage(file: &str, bytes: &[u8]) -> Result<Vec<u8>> {
         let number = 1 + bytes[..error.valid_up_to()].iter().filter(|&&byte| byte == b'\n').count();
         at_line(number, Fault("expected text, in UTF-8".to_string()))
     })?;
-    let mut parsed = Text { size: 4096, key: 0, at: 256, first: None, names: HashMap::new(), lines: Vec::new() };
+    let mut parsed = Text { size: 4096, at: 256, ..Text::default() };
     for (number, line) in (1..).zip(text.lines()) {
         parsed.line(number, without_comment(line)).map_err(|fault| at_line(number, fault))?;
     }
+    parsed.settle();
     let mut storage = vec![0; parsed.size];
     for line in &parsed.lines {
         parsed.lay(line, &mut storage).map_err(|fault| at_line(line.number, fault))?;

@@ -7,7 +7,7 @@
 //! rustc --edition 2021 --crate-type rlib -L native=target/staticlib rust/poplar.rs
 //! ```
 //!
-//! `rust/build` does both, and compiles the programs beside this file.
+//! `rust/build` does both, and compiles those programs beside this file that its arguments name.
 //!
 //! A host keeps a [`Held`] and lends it, the channel's storage and the pack's cells to [`start`] and [`go`]. Every input
 //! gets an [`Answer`]. There is no global state, so boxes on different memory may run in several threads at once.
@@ -310,13 +310,14 @@ pub fn go_raw(held: &mut [u8], storage: &mut [u8], cells: &mut [u16], shape: Sha
     Answer::from(number)
 }
 
-/// A look that cannot be made: the track is not 4,096 cells long, or the record is over 4,096.
+/// A look that cannot be made: the track is not 4,096 cells long, or the record is over 4,096. The home address is of no record, so for
+/// it any record will do.
 #[derive(Clone, Copy, Debug, PartialEq, Eq)]
 pub struct WrongCall;
 
 impl std::fmt::Display for WrongCall {
     fn fmt(&self, f: &mut std::fmt::Formatter<'_>) -> std::fmt::Result {
-        f.write_str("the track is not 4,096 cells long, or the record is over 4,096")
+        f.write_str("the track is not 4,096 cells long, or the record is over 4,096 (but for the home address)")
     }
 }
 
