@@ -30,6 +30,9 @@ impl Takes {
                 if args.option(name).is_some() {
                     return args.refuse(format!("{name} stands twice"));
                 }
+                if value.is_empty() {
+                    return args.refuse(format!("{name} '': expected a value that is not empty"));
+                }
                 args.options.push((name, value.clone()));
             } else if let Some(name) = self.switches.iter().find(|name| word == *name) {
                 args.switches.push(name);

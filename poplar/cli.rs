@@ -1,5 +1,5 @@
 //! The four subcommands, and where they speak.
-use crate::refusal::{refuse, Refusal, Result};
+use crate::refusal::{refuse, shown, Refusal, Result};
 use crate::{check, demo, run, track};
 use std::ffi::OsString;
 use std::io::Write;
@@ -33,6 +33,13 @@ pub struct To<'a> {
     pub bar: bool,
 }
 
+impl To<'_> {
+    /// Something to know that does not change how the call ends.
+    pub fn note(&mut self, text: &str) {
+        let _ = writeln!(self.err, "poplar: note: {}", shown(text));
+    }
+}
+
 type Subcommand = fn(&[OsString], &mut To) -> Result<u8>;
 
 const SUBCOMMANDS: &[(&str, &str, Subcommand)] = &[
@@ -63,16 +70,19 @@ fn serve(words: &[OsString], to: &mut To) -> Result<u8> {
 
 /// One call with these words; its exit status.
 pub fn run(words: &[OsString], to: &mut To) -> u8 {
-    match serve(words, to) {
-        Ok(status) => status,
-        Err(Refusal { text, by_box }) => {
-            // Nobody may be listening; the status says it too.
-            let _ = writeln!(to.err, "poplar: {text}");
-            if by_box {
-                BOX_REFUSED
-            } else {
-                REFUSED
-            }
-        }
+    let served = serve(words, to);
+    // also after a refusal: what was told before it comes first
+    let heard = to.out.flush();
+    let Refusal { text, by_box } = match (served, heard) {
+        (Ok(status), Ok(())) => return status,
+        (Ok(_), Err(error)) => error.into(),
+        (Err(refusal), _) => refusal,
+    };
+    // Nobody may be listening; the status says it too.
+    let _ = writeln!(to.err, "poplar: {}", shown(&text));
+    if by_box {
+        BOX_REFUSED
+    } else {
+        REFUSED
     }
 }

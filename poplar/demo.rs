@@ -5,20 +5,23 @@ use crate::cli::{To, DONE};
 use crate::pack::Pack;
 use crate::refusal::{refuse, Result};
 use crate::survey::Survey;
-use crate::{changes, text, track};
+use crate::{changes, place, save, text, track};
 use poplar::{Answer, Part, Shape};
 use std::io::Write;
 
 pub const HELP: &str = "\
-poplar demo
+poplar demo [--out FOLDER]
 
 Formats a small sample pack through the box, runs a channel program on it and shows each word in plain language with its
 status and its sense, the track as it lies, and what changed. Then one bit of the track is damaged, and the same program
-runs again. Nothing is read and nothing is written.
+runs again. Nothing is read, and without --out nothing is written.
 
-Exit status: 0 done.";
+  --out FOLDER   write the pack as it was formatted (2 heads), and the program's storage, to a new folder: to try run,
+                 track and check on
 
-const TAKES: Takes = Takes { name: "demo", file: false, options: &[], switches: &[] };
+Exit status: 0 done; 2 refused.";
+
+const TAKES: Takes = Takes { name: "demo", file: false, options: &["--out"], switches: &[] };
 
 const SHAPE: Shape = Shape { cylinders: 2, heads: 2 };
 const SAMPLE: &str = include_str!("sample.words");
@@ -73,9 +76,13 @@ fn formatted(out: &mut dyn Write) -> Result<Pack> {
     Ok(pack)
 }
 
+fn sample_storage() -> Result<Vec<u8>> {
+    text::storage("sample.words", SAMPLE.as_bytes())
+}
+
 /// Runs the sample on a pack, word by word, and says what changed.
 fn sample(pack: Pack, out: &mut dyn Write) -> Result<Pack> {
-    let storage = text::storage("sample.words", SAMPLE.as_bytes())?;
+    let storage = sample_storage()?;
     let before = (pack.clone(), storage.clone());
     let mut lent = Lent::fresh(storage, pack);
     let answer = match lent.start() {
@@ -105,16 +112,29 @@ fn damage(pack: &mut Pack, out: &mut dyn Write) -> Result<()> {
     Ok(())
 }
 
+/// The sample on a pack that is sound, and on the same with a damaged bit.
+fn show(pack: Pack, out: &mut dyn Write) -> Result<()> {
+    writeln!(out, "The channel program, word by word:\n")?;
+    let mut pack = sample(pack, out)?;
+    writeln!(out, "\nThe track as it lies:\n")?;
+    draw(&pack, out)?;
+    damage(&mut pack, out)?;
+    let pack = sample(pack, out)?;
+    writeln!(out)?;
+    draw(&pack, out)
+}
+
 pub fn demo(given: &[std::ffi::OsString], to: &mut To) -> Result<u8> {
-    TAKES.parse(given)?;
+    let args = TAKES.parse(given)?;
+    if let Some(place) = args.path("--out") {
+        place::may_write_folder(place, false, &[])?;
+    }
     let pack = formatted(to.out)?;
-    writeln!(to.out, "The channel program, word by word:\n")?;
-    let mut pack = sample(pack, to.out)?;
-    writeln!(to.out, "\nThe track as it lies:\n")?;
-    draw(&pack, to.out)?;
-    damage(&mut pack, to.out)?;
-    let pack = sample(pack, to.out)?;
-    writeln!(to.out)?;
-    draw(&pack, to.out)?;
+    show(pack.clone(), to.out)?;
+    if let Some(place) = args.path("--out") {
+        let files = [("pack", pack.bytes()), ("storage", sample_storage()?)];
+        writeln!(to.out)?;
+        save::folder(place, &files, false)?.tell(Ok(()), to)?;
+    }
     Ok(DONE)
 }

@@ -1,6 +1,6 @@
 //! Files that are given: opened for reading alone, and read no further than they can be of use.
 use crate::refusal::{refuse, system, Result};
-use std::fs::File;
+use std::fs::{self, File};
 use std::io::Read;
 use std::path::Path;
 
@@ -8,12 +8,12 @@ use std::path::Path;
 pub fn read_up_to(path: &Path, what: &str, most: usize) -> Result<Vec<u8>> {
     let shown = path.display();
     let failed = |error| system(format!("{shown}: expected {what}"), error);
-    let file = File::open(path).map_err(failed)?;
-    if !file.metadata().map_err(failed)?.is_file() {
-        return refuse(format!("{shown}: no file; expected {what}"));
+    // before it is opened: to open a pipe is to wait until somebody writes to it
+    if !fs::metadata(path).map_err(failed)?.is_file() {
+        return refuse(format!("{shown}: no regular file; expected {what}"));
     }
     let mut bytes = Vec::new();
-    file.take(most as u64).read_to_end(&mut bytes).map_err(failed)?;
+    File::open(path).map_err(failed)?.take(most as u64).read_to_end(&mut bytes).map_err(failed)?;
     Ok(bytes)
 }
 

@@ -69,14 +69,16 @@ fn check_results(call: &Call, left: &Left, made: &[(PathBuf, Vec<u8>)]) -> Check
     let err = String::from_utf8_lossy(&left.err);
     let expected: &[&str] = match (call.writes_folder, left.status) {
         (true, 0) => &["out", "out/pack", "out/storage"],
-        (true, 1) => &["out", "out/held", "out/pack", "out/storage"],
+        (true, 1) => &["out", "out/chain", "out/held", "out/pack", "out/storage"],
         (true, 3) if err.contains("answers 5") => &["out", "out/storage"],
         (false, 0) if call.writes_picture => &["picture.svg"],
         _ => &[],
     };
     let names: Vec<&Path> = made.iter().filter_map(|(path, _)| path.strip_prefix(&call.results).ok()).collect();
     must(names == expected.iter().map(Path::new).collect::<Vec<_>>(), &format!("it leaves {names:?}"))?;
-    must((left.status >= 2) == err.starts_with("poplar: "), "a refusal says why, and nothing else does")?;
+    let says_why = |line: &str| line.starts_with("poplar: ") && !line.starts_with("poplar: note: ");
+    must((left.status >= 2) == err.lines().any(says_why), "a refusal says why, and nothing else does")?;
+    must(!call.must_refuse || left.status == 2, "what does not belong to the held state is not refused")?;
     must((0..=3).contains(&left.status), &format!("status {}", left.status))?;
     must(!err.contains("panicked"), "it panics")?;
     let storage = made.iter().find(|(path, _)| path.ends_with("out/storage"));
@@ -130,7 +132,8 @@ fn check_kind(kind: Kind, folder: &Path, cases: usize, program: Option<&Path>) -
         check_case(&calls, program, &mut tally).map_err(|what| format!("{kind:?}, case {number}: {what}"))?;
     }
     println!("hard: {kind:?}: {cases} random, {cases} changed; calls by exit status 0 to 3: {tally:?}");
-    Ok(())
+    must(tally[2] + tally[3] > 0, "none was refused")?;
+    must(kind == Kind::Chain || tally[0] + tally[1] > 0, "all were refused")
 }
 
 fn main() -> ExitCode {

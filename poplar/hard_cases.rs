@@ -10,9 +10,10 @@ pub enum Kind {
     Storage,
     Words,
     Held,
+    Chain,
 }
 
-pub const KINDS: [Kind; 4] = [Kind::Pack, Kind::Storage, Kind::Words, Kind::Held];
+pub const KINDS: [Kind; 5] = [Kind::Pack, Kind::Storage, Kind::Words, Kind::Held, Kind::Chain];
 
 /// A call, the folders of its inputs and of its results, and what it may write there.
 pub struct Call {
@@ -23,6 +24,7 @@ pub struct Call {
     pub writes_picture: bool,
     /// The storage that the box is lent, if it is a file.
     pub storage: Option<Vec<u8>>,
+    pub must_refuse: bool,
 }
 
 /// Numbers that are the same every time (splitmix64).
@@ -71,7 +73,6 @@ impl Random {
             "\ntext \"some\"",
             "\n1D 0x200 20",
             "\nzeros 3",
-            "\nat 400",
         ];
         (0..length).flat_map(|_| PIECES[self.below(PIECES.len())].bytes()).collect()
     }
@@ -132,10 +133,10 @@ fn call(words: &[&str], folder: &Path) -> Call {
     let words: Vec<OsString> = words.iter().map(at).collect();
     let has = |name: &str| words.iter().any(|word| word == name);
     let (writes_folder, writes_picture) = (has("--out"), has("--svg"));
-    Call { words, inputs, results, writes_folder, writes_picture, storage: None }
+    Call { words, inputs, results, writes_folder, writes_picture, storage: None, must_refuse: false }
 }
 
-/// The good files: a formatted pack, a text of words, and the pack, storage and held state of a chain that is held.
+/// The good files: a formatted pack, a text of words, and in `in/stopped` what a chain that is held leaves; its pack is the formatted one.
 pub fn prepare(folder: &Path) -> Result<(), String> {
     text(fs::create_dir_all(folder.join("in")))?;
     text(fs::create_dir(folder.join("results")))?;
@@ -148,11 +149,13 @@ pub fn prepare(folder: &Path) -> Result<(), String> {
     text(fs::rename(inputs.join("formatted/pack"), inputs.join("pack")))?;
     let stopped = ["run", "in/pack", "--heads", "2", "--words", "in/words", "--allowance", "3", "--out", "in/stopped"];
     made(&call(&stopped, folder), 1)?;
-    text(fs::rename(inputs.join("stopped/storage"), inputs.join("storage")))?;
-    text(fs::rename(inputs.join("stopped/held"), inputs.join("held")))?;
-    text(fs::remove_dir_all(inputs.join("formatted")))?;
-    text(fs::remove_dir_all(inputs.join("stopped")))
+    made(&call(&[&["run"], RESUMED, &["--heads", "2"]].concat(), folder), 0)?;
+    text(fs::copy(inputs.join("stopped/chain"), inputs.join("chain")))?;
+    text(fs::remove_dir_all(inputs.join("formatted")))
 }
+
+/// The chain that is held, gone on with as it should be.
+const RESUMED: &[&str] = &["in/pack", "--storage", "in/stopped/storage", "--resume", "in/stopped/held"];
 
 fn made(call: &Call, wanted: u8) -> Result<(), String> {
     let mut said = Vec::new();
@@ -166,9 +169,10 @@ fn made(call: &Call, wanted: u8) -> Result<(), String> {
 pub fn good(kind: Kind, folder: &Path) -> Result<Vec<u8>, String> {
     let name = match kind {
         Kind::Pack => "pack",
-        Kind::Storage => "storage",
+        Kind::Storage => "stopped/storage",
         Kind::Words => "words",
-        Kind::Held => "held",
+        Kind::Held => "stopped/held",
+        Kind::Chain => "chain",
     };
     text(fs::read(folder.join("in").join(name)))
 }
@@ -190,6 +194,7 @@ pub fn calls(kind: Kind, folder: &Path, bytes: Vec<u8>, random: &mut Random) -> 
                 runs(&["run", "in/case", "--words", "in/words"]),
                 call(&["check", "in/case", "--heads", "2"], folder),
                 call(&track, folder),
+                call(&[&track[..], &["--whole"]].concat(), folder),
                 call(&[&track[..], &["--svg", "results/picture.svg"]].concat(), folder),
             ]
         }
@@ -199,6 +204,11 @@ pub fn calls(kind: Kind, folder: &Path, bytes: Vec<u8>, random: &mut Random) -> 
             vec![run]
         }
         Kind::Words => vec![runs(&["run", "in/pack", "--words", "in/case"])],
-        Kind::Held => vec![runs(&["run", "in/pack", "--storage", "in/storage", "--resume", "in/case"])],
+        Kind::Held => vec![runs(&["run", "in/pack", "--storage", "in/stopped/storage", "--resume", "in/case"])],
+        // no file but the one that was written belongs to this held state
+        Kind::Chain => {
+            text(fs::write(folder.join("in/stopped/chain"), &bytes))?;
+            vec![Call { must_refuse: true, ..runs(&[&["run"], RESUMED].concat()) }]
+        }
     })
 }

@@ -4,6 +4,7 @@
 //! only to show it: a cell is taken for a byte or not, the bytes of a readable home address or count are cut into the fields that
 //! document 01 gives, what no marker and no area covers is called gap, and of areas that go over one another one is drawn.
 mod args;
+mod belongs;
 mod chain;
 mod changes;
 mod check;
@@ -11,6 +12,7 @@ pub mod cli;
 mod demo;
 mod files;
 mod pack;
+mod place;
 mod refusal;
 mod run;
 mod save;

@@ -1,7 +1,7 @@
 //! The program; its parts are in `lib.rs`.
 use archivist::cli;
 use std::ffi::OsString;
-use std::io::{self, BufWriter, IsTerminal, Write};
+use std::io::{self, BufWriter, IsTerminal};
 use std::process::ExitCode;
 
 fn main() -> ExitCode {
@@ -9,12 +9,5 @@ fn main() -> ExitCode {
     let mut out = BufWriter::new(io::stdout().lock());
     let mut err = io::stderr().lock();
     let mut to = cli::To { out: &mut out, err: &mut err, bar: io::stderr().is_terminal() };
-    let status = cli::run(&words, &mut to);
-    match out.flush() {
-        Ok(()) => ExitCode::from(status),
-        Err(error) => {
-            let _ = writeln!(err, "poplar: what was to be said could not be written: {error}");
-            ExitCode::from(cli::REFUSED)
-        }
-    }
+    ExitCode::from(cli::run(&words, &mut to))
 }

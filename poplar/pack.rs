@@ -32,15 +32,16 @@ impl Pack {
     pub fn open(path: &Path, heads: u32) -> Result<Pack> {
         let cylinder = heads as usize * TRACK_BYTES;
         let most = MOST_CYLINDERS * cylinder;
-        let bytes = files::read(path, "a pack file", most)?;
-        if bytes.is_empty() || bytes.len() % cylinder != 0 {
-            let shown = path.display();
+        let bytes = files::read_up_to(path, "a pack file", most + 1)?;
+        if bytes.is_empty() || bytes.len() > most || bytes.len() % cylinder != 0 {
+            let over = if bytes.len() > most { "over " } else { "" };
+            let found = bytes.len().min(most);
             return refuse(format!(
-                "{shown}: {} bytes; expected 1 to {MOST_CYLINDERS} cylinders of {cylinder} bytes each \
+                "{}: {over}{found} bytes; expected 1 to {MOST_CYLINDERS} cylinders of {cylinder} bytes each \
                  ({heads} heads, {TRACK_CELLS} cells a track, 2 bytes a cell). The first {} bytes are whole cylinders. \
                  --heads says how many heads a cylinder has",
-                bytes.len(),
-                bytes.len() / cylinder * cylinder
+                path.display(),
+                found / cylinder * cylinder
             ));
         }
         let cells = bytes.chunks_exact(2).map(|pair| u16::from_be_bytes([pair[0], pair[1]])).collect();

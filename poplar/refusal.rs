@@ -10,6 +10,13 @@ pub struct Refusal {
     pub by_box: bool,
 }
 
+impl Refusal {
+    /// Says this, too.
+    pub fn and(self, text: &str) -> Refusal {
+        Refusal { text: format!("{}; {text}", self.text), ..self }
+    }
+}
+
 pub type Result<T> = std::result::Result<T, Refusal>;
 
 pub fn refuse<T>(text: impl Into<String>) -> Result<T> {
@@ -19,6 +26,15 @@ pub fn refuse<T>(text: impl Into<String>) -> Result<T> {
 /// What an error of the system did to a file.
 pub fn system(what: impl Display, error: io::Error) -> Refusal {
     Refusal { text: format!("{what}: {error}"), by_box: false }
+}
+
+/// A message as it can be shown: control characters, which a file or a name may hold, are written out.
+pub fn shown(text: &str) -> String {
+    let sign = |sign: char| match sign.is_control() {
+        true => sign.escape_default().to_string(),
+        false => sign.to_string(),
+    };
+    text.chars().map(sign).collect()
 }
 
 impl From<io::Error> for Refusal {

@@ -4,7 +4,7 @@ use crate::cli::{To, DONE};
 use crate::pack::Pack;
 use crate::refusal::{refuse, Refusal, Result};
 use crate::survey::{area_name, Lies, Piece, Survey};
-use crate::{save, svg, words};
+use crate::{place, save, svg, words};
 use poplar::{Part, WrongCall};
 use std::io::Write;
 
@@ -49,9 +49,8 @@ pub fn track(given: &[std::ffi::OsString], to: &mut To) -> Result<u8> {
     match args.path("--svg") {
         Some(_) if args.has("--whole") => return args.refuse("--whole does not go with --svg"),
         Some(place) => {
-            save::may_write_file(place, args.has("--force"), args.file("a pack file")?)?;
-            save::file(place, svg::draw(&title, cells, &survey).as_bytes())?;
-            writeln!(to.out, "{}: written", place.display())?;
+            place::may_write_file(place, args.has("--force"), args.file("a pack file")?)?;
+            save::file(place, svg::draw(&title, cells, &survey).as_bytes(), args.has("--force"))?.tell(Ok(()), to)?;
         }
         None if args.has("--force") => return refuse("track: --force goes with --svg; see poplar track --help"),
         None => draw_as(&title, cells, &survey, args.has("--whole"), to.out)?,

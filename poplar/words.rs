@@ -133,7 +133,7 @@ pub fn answer(answer: Answer) -> &'static str {
         Answer::BadStorage => "storage under 80 or over 16,777,216 bytes",
         Answer::BadPack => "cylinders, heads or cell count wrong",
         Answer::BadHeld => {
-            "held state wrong; expected the 64 bytes that a run which was held wrote, with the pack and the storage it wrote"
+            "held state wrong; expected the 64 bytes of a held state, with the pack and the storage that a run wrote with it"
         }
         Answer::NotStarted => {
             "not started: bad address word at 72, or its first command word is bad or a TIC; bytes 68 and 69 of storage became 00 20"
