@@ -3,3 +3,4 @@ pub mod Laws
 pub mod Marks
 pub mod Numbers
 pub mod Tests
+pub mod Every

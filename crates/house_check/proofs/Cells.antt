@@ -49,37 +49,17 @@ pub left-none : (cells : List ℕ) (i r : ℕ) → length cells ≤ i → left c
 unfolding left feed bits bytesOf
 left-none cells i r h = ap (λ (t : List ℕ). feed r (bits (bytesOf t))) (drop-of-length-le cells h)
 
--- the same for clean cells
-unfoldable pub cleanFrom : List ℕ → ℕ → ℕ → Bool
-cleanFrom cells i r = both (allBytes (drop i cells)) (eqb (left cells i r) 0)
-
-pub clean-next : (cells : List ℕ) (i r : ℕ) → i < length cells → getD cells i 0 / 256 ≡ 1
-    → cleanFrom cells i r ≡ cleanFrom cells (i + 1) (feed r (byteBits (getD cells i 0) []))
-unfolding cleanFrom allBytes
-clean-next cells i r h e =
-    let s : List ℕ = drop (suc i) cells in
-    ap₂ (λ (x : List ℕ) (y : ℕ). both (allBytes x) (eqb y 0)) (drop-cons cells i 0 h) (left-next cells i r h)
-    ∙ ap (λ (b : Bool). both (both b (allBytes s)) (eqb (left cells (i + 1) (feed r (byteBits (getD cells i 0) []))) 0)) (eq-eqb (getD cells i 0 / 256) 1 e)
-    ∙ ap (λ (n : ℕ). both (allBytes (drop n cells)) (eqb (left cells (i + 1) (feed r (byteBits (getD cells i 0) []))) 0)) (sym (add-one i))
-
-pub clean-stop : (cells : List ℕ) (i r : ℕ) → i < length cells → (getD cells i 0 / 256 ≡ 1 → ⊥) → cleanFrom cells i r ≡ false
-unfolding cleanFrom allBytes
-clean-stop cells i r h e =
-    ap (λ (x : List ℕ). both (allBytes x) (eqb (left cells i r) 0)) (drop-cons cells i 0 h)
-    ∙ ap (λ (b : Bool). both (both b (allBytes (drop (suc i) cells))) (eqb (left cells i r) 0)) (ne-eqb (getD cells i 0 / 256) 1 e)
-
-pub clean-end : (cells : List ℕ) (i r : ℕ) → length cells ≤ i → cleanFrom cells i r ≡ eqb r 0
-unfolding cleanFrom allBytes
-clean-end cells i r h =
-    ap₂ (λ (x : List ℕ) (y : ℕ). both (allBytes x) (eqb y 0)) (drop-of-length-le cells h) (left-none cells i r h)
-
 -- ---- an area's cells
+
+-- the bytes of cells are bytes
+pub bytes-Bytes : (t : List ℕ) → Bytes (bytesOf t)
+bytes-Bytes t i = subst (λ (x : ℕ). x < 256) (sym (getD-bytesOf t i)) (omega arith)
 
 -- n + 2 cells are an area
 pub cells-area : (n : ℕ) (t : List ℕ) → length t ≡ n + 2 → Area n (bytesOf t)
 cells-area n t e = record {
   long = length-bytesOf t ∙ e;
-  bytes = λ i. subst (λ (x : ℕ). x < 256) (sym (getD-bytesOf t i)) (omega arith);
+  bytes = bytes-Bytes t;
 }
 
 -- the check of an area agrees exactly where the whole leaves 0

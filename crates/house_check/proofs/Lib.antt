@@ -8,3 +8,8 @@ pub mod Burst
 pub mod Linear
 pub mod Sharp
 pub mod Cells
+pub mod Below
+pub mod Powers
+pub mod Folding
+pub mod Words
+pub mod Table

@@ -1,3 +1,5 @@
 -- The model of the HOUSE check.
 pub mod Check
 pub mod Area
+pub mod Table
+pub mod Fold

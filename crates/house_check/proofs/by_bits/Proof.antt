@@ -1,4 +1,4 @@
--- `house_check::check_of` meets its contract. The invariant: the register, with the cells that are left, comes to the whole check.
+-- `house_check::by_bits` meets its contract. The invariant: the register, with the cells that are left, comes to the whole check.
 -- Assumes nothing.
 use mathlib.Core.Path.{_≡_, refl, ap, sym, _∙_}
 use Prim.Native.Nat.{_-_, _≤_}
@@ -8,8 +8,8 @@ use borrow.Author.Needs.{needs}
 use Rattle.cells.specs.Cells.{bytesOf}
 use Rattle.house_check.specs.Check.{check}
 use Rattle.house_check.proofs.Cells.{left, left-next, left-none}
-use Rattle.house_check.proofs.check_of.Statement.{statement}
-use Rattle.house_check.proofs.check_of.Tie as tie
+use Rattle.house_check.proofs.by_bits.Statement.{statement}
+use Rattle.house_check.proofs.by_bits.Tie as tie
 
 abbrev Inv-loop : tie.InvT-loop
 Inv-loop cells r₀ i₀ r i = (i ≤ length cells) × (check (bytesOf cells) ≡ left cells i r)
@@ -44,8 +44,8 @@ loop-again c =
 returns : tie.Need-returns Inv-loop μ-loop
 returns c = sym (c .before .loop .inv .1 ∙ left-none _ _ _ (c .loop-test .left))
 
-pub check-of-spec : {M : Type 1} → statement M
-check-of-spec =
+pub by-bits-spec : {M : Type 1} → statement M
+by-bits-spec =
     tie.close
     (tie.spec
     Inv-loop
