@@ -1,25 +1,26 @@
--- Laws of the hunt: one cell on, none left, and that cells before 7 make no difference. Assumes nothing.
+-- Laws of the hunt: one cell on, none left, and that cells before 7 and cells without a marker make no difference. Assumes nothing.
 use Prim.Native.Nat.{ℕ, zero, suc, _+_, _-_, _<_, _≤_, max}
 use mathlib.Core.Path.{_≡_, sym, ap, _∙_}
-use mathlib.Core.Bool.{Bool, true, false}
+use mathlib.Core.Bool.{Bool, true, false, not}
 use mathlib.Core.List.{List}
 use native.Mathlib.Numerals.{add-one}
 use native.Mathlib.Nat.{zero-add}
 use native.Mathlib.Omega.{arith}
 use native.Mathlib.Decide.{decLt}
-use lib.ListN.{length, getD, drop, drop-of-length-le, List·getD-eq-default}
+use lib.ListN.{length, getD, take, drop, drop-of-length-le, List·getD-eq-default}
 use lib.Seq.{drop-cons}
 use lib.Dec.{eqb}
-use borrow.Author.Tests.{le-leb, lt-ltb, le-ltb}
+use borrow.Author.Tests.{le-leb, lt-ltb, le-ltb, eqb-false, not-true}
 use Rattle.cells.specs.Choice.{pick, both}
 use Rattle.cells.specs.Cells.{markAt, marks}
 use Rattle.cells.proofs.Marks.{length-marks, getD-marks, mark-here, mark-none, mark-low}
+use Rattle.cells.proofs.Tests.{first-of, second-of}
 use Rattle.hunt.specs.declared.Found.{Found}
 use Rattle.hunt.specs.declared.Found.the-variants.{At, Nothing}
 use Rattle.hunt.specs.declared.Spot.the-variants.{Zero, Marker}
 use Rattle.hunt.specs.declared.Next.{Next}
 use Rattle.hunt.specs.declared.Next.the-variants.{Stands, NoMarker}
-use Rattle.hunt.specs.Hunt.{scan, hunt, pastIndex, aheadOr, nextRecord, nextId, spacedTo, spaceRecord}
+use Rattle.hunt.specs.Hunt.{bare, scan, hunt, pastIndex, aheadOr, nextRecord, nextId, spacedTo, spaceRecord}
 
 module _ (t : List ℕ) (p : ℕ) where
   -- by what stands in cell p
@@ -56,6 +57,23 @@ hunt-seven t p h = go (decLt p 7)
     go : Dec (p < 7) → hunt (marks t) p ≡ hunt (marks t) (max p 7)
     go (yes k) = up t (7 - p) p (omega arith) h ∙ ap (hunt (marks t)) (omega arith)
     go (no k) = ap (hunt (marks t)) (omega arith)
+
+-- ---- cells without a marker
+
+-- n such cells make no difference
+over : (t : List ℕ) (n p q : ℕ) → bare (take n (drop p t)) ≡ true → n + p ≡ q → q ≤ length t → hunt (marks t) p ≡ hunt (marks t) q
+unfolding bare
+over t zero p q b e h = ap (hunt (marks t)) (sym (zero-add p) ∙ e)
+over t (suc n) p q b e h =
+    let k : p < length t = omega arith in
+    let x = getD t p 0 in
+    let d = rw (drop-cons t p 0) at b in
+    hunt-by t p false (mark-none t p (eqb-false x 512 (not-true _ (first-of _ _ d)))) k
+    ∙ over t n (suc p) q (second-of (not (eqb x 512)) _ d) (omega arith) h
+
+-- a hunt from p may begin at q, if the cells between are such
+pub hunt-bare : (t : List ℕ) (p q : ℕ) (f : Found) → hunt (marks t) p ≡ f → p ≤ q → q ≤ length t → bare (take (q - p) (drop p t)) ≡ true → hunt (marks t) q ≡ f
+hunt-bare t p q f e h k b = sym (over t (q - p) p q b (omega arith) k) ∙ e
 
 -- is a marker here: below 7 none, off the track none
 pub mark-off : (t : List ℕ) (p : ℕ) → length t ≤ p → markAt t p ≡ false

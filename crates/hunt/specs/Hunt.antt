@@ -2,12 +2,12 @@
 -- nothing else on the track. Assumes nothing.
 use Prim.Native.Nat.{ℕ, suc, _+_}
 use mathlib.Core.Path.{_≡_}
-use mathlib.Core.Bool.{Bool, true, false}
+use mathlib.Core.Bool.{Bool, true, false, not}
 use mathlib.Core.List.{List, [], _∷_}
 use lib.ListN.{length, getD, drop}
-use lib.Dec.{ltb}
-use Rattle.cells.specs.Choice.{pick}
-use Rattle.cells.specs.Cells.{trackCells, firstMarker}
+use lib.Dec.{ltb, eqb}
+use Rattle.cells.specs.Choice.{pick, both}
+use Rattle.cells.specs.Cells.{trackCells, firstMarker, marker}
 use Rattle.hunt.specs.declared.Found.{Found}
 use Rattle.hunt.specs.declared.Found.the-variants.{At, Nothing}
 use Rattle.hunt.specs.declared.Spot.{Spot}
@@ -18,6 +18,11 @@ use Rattle.hunt.specs.declared.Next.the-variants.{Stands, NoMarker}
 -- a whole track
 pub record Whole (t : List ℕ) : Type 0 where
   pub long : length t ≡ trackCells
+
+-- whether none of some cells holds a marker, below cell 7 too; cited by private functions alone
+unfoldable pub bare : List ℕ → Bool
+bare [] = true
+bare (x ∷ t) = both (not (eqb x marker)) (bare t)
 
 -- the first marker of m, whose first cell is numbered p
 unfoldable pub scan : List Bool → ℕ → Found

@@ -1,8 +1,15 @@
 // The hunt for the next record on a track, by its markers.
 ghost use mathlib.Core.Path.{_≡_};
-ghost use Prim.Native.Nat.{max};
+ghost use Prim.Native.Nat.{max, _≤_};
 ghost use Rattle.cells.specs.Cells.{marks, markAt};
-ghost use Rattle.hunt.specs.Hunt.{Whole, hunt, countFirst, nextRecord, nextId, spaceRecord};
+ghost use Rattle.hunt.specs.Hunt.{Whole, bare, hunt, countFirst, nextRecord, nextId, spaceRecord};
+
+const TRACK_CELLS: u16 = 4096;
+
+const MARKER: u16 = 512;
+
+// So many cells are passed over at once where none of them holds a marker.
+const STRIDE: u16 = 16;
 
 // The cell of a marker, or that there is none.
 pub enum Found {
@@ -33,7 +40,7 @@ pub fn is_marker(track: &[u16], at: u16) -> bool
     if track.len() <= i {
         return false;
     }
-    track[i] == 512
+    track[i] == MARKER
 }
 
 // The first cell at or after a place that can hold a marker.
@@ -46,14 +53,45 @@ fn from_seven(place: u16) -> u16
     place
 }
 
+// Whether none of some cells holds a marker. There is no early end, so that the compiler can look at eight cells at once.
+fn is_bare(cells: &[u16]) -> bool
+    ensures { λ r. ⌜ r ≡ bare (now (cells .entry)) ⌝ }
+{
+    let mut bare = true;
+    let mut i = 0;
+    while i < cells.len() {
+        if cells[i] == MARKER {
+            bare = false;
+        }
+        i += 1;
+    }
+    bare
+}
+
+// The cell that a hunt may begin at instead: strides without a marker are passed over, since markers are few.
+fn pass_over(track: &[u16], from: u16) -> u16
+    requires { ⌜ Whole (now track) ⌝ }
+    ensures { λ r. ⌜ (from ≤ r) × (hunt (marks (now (track .entry))) r ≡ hunt (marks (now (track .entry))) from) ⌝ }
+{
+    let mut i = from;
+    while i < TRACK_CELLS - STRIDE {
+        let at = i as usize;
+        if !is_bare(&track[at..at + STRIDE as usize]) {
+            return i;
+        }
+        i += STRIDE;
+    }
+    i
+}
+
 // The first marker at or after a place.
 pub fn next_marker(track: &[u16], place: u16) -> Found
     requires { ⌜ Whole (now track) ⌝ }
     ensures { λ r. ⌜ r ≡ hunt (marks (now (track .entry))) place ⌝ }
 {
-    let mut i = from_seven(place);
-    while i < 4096 {
-        if track[i as usize] == 512 {
+    let mut i = pass_over(track, from_seven(place));
+    while i < TRACK_CELLS {
+        if track[i as usize] == MARKER {
             return Found::At(i);
         }
         i += 1;

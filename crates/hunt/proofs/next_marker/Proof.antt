@@ -1,8 +1,9 @@
--- `hunt::next_marker` meets its contract. The invariant: the hunt from the place is the hunt from the cell in hand. Assumes nothing.
+-- `hunt::next_marker` meets its contract: the hunt from the place is the hunt from the cell that the strides end at.
+-- The invariant: it is the hunt from the cell in hand.
 use Prim.Native.Nat.{_-_, _≤_}
 use mathlib.Core.Path.{_≡_, sym, ap, _∙_}
 use native.Mathlib.Omega.{arith}
-use Rattle.cells.specs.Cells.{marks}
+use Rattle.cells.specs.Cells.{trackCells, marks}
 use Rattle.hunt.specs.Hunt.{hunt}
 use Rattle.hunt.proofs.Laws.{hunt-seven, hunt-here, hunt-on, hunt-end}
 use borrow.Author.Needs.{needs}
@@ -13,35 +14,18 @@ abbrev Inv-loop : tie.InvT-loop
 Inv-loop track place i₀ i = (7 ≤ i) × (hunt (marks track) place ≡ hunt (marks track) i)
 
 abbrev μ-loop : tie.MeasureT-loop
-μ-loop track place i₀ i = 4096 - i
-
-from-seven-requires : tie.Need-from-seven-requires Inv-loop μ-loop
-from-seven-requires c κs = search needs
+μ-loop track place i₀ i = trackCells - i
 
 loop-holds : tie.Need-loop-holds Inv-loop μ-loop
 loop-holds c =
-    let x = c .before .before .args in
-    (omega arith, hunt-seven (x .track .now) (x .place) (omega arith) ∙ ap (hunt (marks (x .track .now))) (sym (c .from-seven .ensures)))
-
-cast-if1 : tie.Need-cast-if1 Inv-loop μ-loop
-cast-if1 c = search needs
-
-mul-if1 : tie.Need-mul-if1 Inv-loop μ-loop
-mul-if1 c = search needs
-
-shared-slice-read-if1 : tie.Need-shared-slice-read-if1 Inv-loop μ-loop
-shared-slice-read-if1 c = search needs
+    let x = c .before .before .before .args in
+    let seven = ap (hunt (marks (x .track .now))) (sym (c .before .from-seven .ensures)) in
+    (omega arith, hunt-seven (x .track .now) (x .place) (omega arith) ∙ seven ∙ sym (c .pass-over .ensures .1))
 
 returns : tie.Need-returns Inv-loop μ-loop
 returns c =
     let l = c .before .before .before .loop in
     sym (l .inv .1 ∙ hunt-here _ _ (omega arith) (l .inv .0) (c .if1 .taken))
-
-add-i : tie.Need-add-i Inv-loop μ-loop
-add-i c = search needs
-
-loop-less : tie.Need-loop-less Inv-loop μ-loop
-loop-less c = search needs
 
 loop-again : tie.Need-loop-again Inv-loop μ-loop
 loop-again c =
@@ -57,13 +41,14 @@ next-marker-spec =
     (tie.spec
     Inv-loop
     μ-loop
-    from-seven-requires
+    (λ c κs. search needs)
+    (λ c κs. search needs)
     loop-holds
-    cast-if1
-    mul-if1
-    shared-slice-read-if1
+    (λ c. search needs)
+    (λ c. search needs)
+    (λ c. search needs)
     returns
-    add-i
-    loop-less
+    (λ c. search needs)
+    (λ c. search needs)
     loop-again
     returns-2)
