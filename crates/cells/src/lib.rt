@@ -1,6 +1,6 @@
 // Bytes and cells of lent slices, read whether they are there or not, and numbers of several bytes.
 ghost use mathlib.Core.Path.{_≡_};
-ghost use Prim.Native.Nat.{_+_, _*_, _<_};
+ghost use Prim.Native.Nat.{_+_, _*_, _<_, min};
 ghost use lib.ListN.{getD};
 ghost use Rattle.cells.specs.Cells.{byteOf};
 
@@ -42,4 +42,14 @@ pub fn triple(high: u8, middle: u8, low: u8) -> u32
     ensures { λ r. ⌜ r ≡ high * 65536 + middle * 256 + low ⌝ }
 {
     wide(high) * 65536 + wide(middle) * 256 + wide(low)
+}
+
+// The lesser of two indexes or lengths.
+pub fn lesser(a: usize, b: usize) -> usize
+    ensures { λ r. ⌜ r ≡ min a b ⌝ }
+{
+    if a <= b {
+        return a;
+    }
+    b
 }

@@ -3,7 +3,7 @@ use areas::Area;
 use areas::Counts;
 ghost use mathlib.Core.Path.{_≡_};
 ghost use mathlib.Core.List.{[], _∷_};
-ghost use Prim.Native.Nat.{_+_, _<_, _≤_, min};
+ghost use Prim.Native.Nat.{_+_, _<_, _≤_};
 ghost use lib.ListN.{length};
 ghost use Rattle.cells.specs.Bytes.{overlay, part};
 ghost use Rattle.cells.specs.Cells.{trackCells, marker, allBytes};
@@ -24,23 +24,14 @@ pub fn new_counts(flag: u8, bytes: &[u8]) -> Counts
     }
 }
 
-fn lesser(a: usize, b: usize) -> usize
-    ensures { λ r. ⌜ r ≡ min a b ⌝ }
-{
-    if a <= b {
-        return a;
-    }
-    b
-}
-
 // An area of n bytes recorded from a cell on, of the m bytes sent from an index on.
 pub fn lay_area(track: &mut [u16], first: usize, n: usize, bytes: &[u8], from: u16, m: u16)
     requires { ⌜ Lies (now track) first n ⌝ }
     ensures { λ _. ⌜ now (track .exit) ≡ areaWritten (now (track .entry)) first (part (now (bytes .entry)) from m) n ⌝ }
 {
     let at = from as usize;
-    let start = lesser(at, bytes.len());
-    let end = lesser(at + m as usize, bytes.len());
+    let start = cells::lesser(at, bytes.len());
+    let end = cells::lesser(at + m as usize, bytes.len());
     recording::write_area(track, first, &bytes[start..end], n);
 }
 

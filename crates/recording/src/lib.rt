@@ -9,11 +9,14 @@ ghost use Rattle.house_check.specs.Area.{sixteen};
 ghost use Rattle.house_check.specs.Check.{check};
 ghost use Rattle.recording.specs.Recording.{areaWritten, countWritten, wiped, Lies};
 
+// The cell that records a zero; a byte b is recorded as b more.
+const ZERO: u16 = 256;
+
 // The cell that records a byte.
 fn cell_of(b: u8) -> u16
     ensures { λ r. ⌜ r ≡ cellOf b ⌝ }
 {
-    256 + b as u16
+    ZERO + b as u16
 }
 
 // One byte recorded in a cell.
@@ -24,16 +27,38 @@ fn record_byte(track: &mut [u16], at: usize, b: u8)
     track[at] = cell_of(b);
 }
 
+// So many bytes, all of them there, recorded from a cell on. The loop tests no byte, so the compiler makes it wide.
+fn record_given(track: &mut [u16], first: usize, bytes: &[u8], m: usize)
+    requires { ⌜ (first + m ≤ length (now track)) × (m ≤ length (now bytes)) ⌝ }
+    ensures { λ _. ⌜ now (track .exit) ≡ overlay (now (track .entry)) first (cellsOf (padded m (now (bytes .entry)))) ⌝ }
+{
+    let mut j = 0;
+    while j < m {
+        track[first + j] = cell_of(bytes[j]);
+        j += 1;
+    }
+}
+
+// So many zeros recorded from a cell on.
+fn record_zeros(track: &mut [u16], first: usize, n: usize)
+    requires { ⌜ first + n ≤ length (now track) ⌝ }
+    ensures { λ _. ⌜ now (track .exit) ≡ overlay (now (track .entry)) first (cellsOf (padded n [])) ⌝ }
+{
+    let mut j = 0;
+    while j < n {
+        track[first + j] = ZERO;
+        j += 1;
+    }
+}
+
 // So many bytes recorded from a cell on: those that are there, then zeros.
 fn record_bytes(track: &mut [u16], first: usize, bytes: &[u8], n: usize)
     requires { ⌜ first + n ≤ length (now track) ⌝ }
     ensures { λ _. ⌜ now (track .exit) ≡ overlay (now (track .entry)) first (cellsOf (padded n (now (bytes .entry)))) ⌝ }
 {
-    let mut j = 0;
-    while j < n {
-        track[first + j] = cell_of(cells::byte_at(bytes, j));
-        j += 1;
-    }
+    let m = cells::lesser(n, bytes.len());
+    record_given(track, first, bytes, m);
+    record_zeros(track, first + m, n - m);
 }
 
 // The check of so many recorded bytes, recorded behind them.
@@ -43,8 +68,8 @@ fn record_check(track: &mut [u16], first: usize, n: usize)
 {
     let end = first + n;
     let sum = house_check::check_of(&track[first..end]);
-    track[end] = 256 + sum / 256;
-    track[end + 1] = 256 + sum % 256;
+    track[end] = ZERO + sum / 256;
+    track[end + 1] = ZERO + sum % 256;
 }
 
 // An area of n bytes recorded from a cell on, with its check.
