@@ -1,4 +1,5 @@
 // The areas of a track as a plain loop in Rust reads them: where they lie, how long they are, whether they are readable.
+use crate::plain::Way;
 
 // Cells of a track: where R0 begins, a count area with its check, a check.
 pub const R0: usize = 7;
@@ -32,36 +33,23 @@ pub const fn record_cells(kl: usize, dl: usize) -> usize {
     1 + COUNT_CELLS + key_cells(kl) + data_cells(dl)
 }
 
-// An area with its check: on the track, of bytes alone, and the remainder over all of it is zero.
-#[inline(always)]
-fn readable(next: impl Fn(u16, u16) -> u16, track: &[u16], from: usize, n: usize) -> Option<&[u16]> {
-    let cells = track.get(from..from + n)?;
-    let mut r = 0;
-    let mut other = 0;
-    for &cell in cells {
-        r = next(r, cell);
-        other |= cell ^ 256;
-    }
-    (r == 0 && other < 256).then_some(&cells[..n - CHECK])
-}
-
 // The cells of a count area that begins there, or the sense bytes.
 #[inline(always)]
-pub fn count(next: impl Fn(u16, u16) -> u16, track: &[u16], from: usize) -> Result<&[u16], [u8; 2]> {
-    readable(next, track, from, COUNT_CELLS).ok_or(UNREADABLE_COUNT)
+pub fn count(way: impl Way, track: &[u16], from: usize) -> Result<&[u16], [u8; 2]> {
+    way.readable(track, from, COUNT_CELLS).ok_or(UNREADABLE_COUNT)
 }
 
 #[inline(always)]
-pub fn key(next: impl Fn(u16, u16) -> u16, track: &[u16], from: usize, kl: usize) -> Result<&[u16], [u8; 2]> {
+pub fn key(way: impl Way, track: &[u16], from: usize, kl: usize) -> Result<&[u16], [u8; 2]> {
     if kl == 0 {
         return Ok(&[]);
     }
-    readable(next, track, from, key_cells(kl)).ok_or(UNREADABLE)
+    way.readable(track, from, key_cells(kl)).ok_or(UNREADABLE)
 }
 
 #[inline(always)]
-pub fn data(next: impl Fn(u16, u16) -> u16, track: &[u16], from: usize, dl: usize) -> Result<&[u16], [u8; 2]> {
-    let cells = readable(next, track, from, data_cells(dl)).ok_or(UNREADABLE)?;
+pub fn data(way: impl Way, track: &[u16], from: usize, dl: usize) -> Result<&[u16], [u8; 2]> {
+    let cells = way.readable(track, from, data_cells(dl)).ok_or(UNREADABLE)?;
     Ok(&cells[..dl])
 }
 

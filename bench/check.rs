@@ -1,7 +1,9 @@
-// The proved check against two plain loops in Rust.
-use crate::common::{in_turn, thousands, timed, Row};
+// The proved check against plain loops in Rust.
+use crate::common::{in_turn, thousands, timed};
+use crate::library::NOW;
 use crate::pack::Bytes;
-use crate::remainder::{next_by_bits, next_by_table};
+use crate::part::{Part, Side};
+use crate::remainder::{next_by_bits, next_by_table, sliced};
 use poplar::TRACK_CELLS;
 use std::hint::black_box;
 
@@ -12,23 +14,25 @@ const FROM: usize = 40;
 const CHECKED: usize = 3600;
 
 const ROUNDS: usize = 21;
-const WANTED: f64 = 1.15;
+
+pub const PART: Part = Part {
+    name: "check",
+    what,
+    rounds: ROUNDS,
+    loops: PLAIN.len(),
+    wanted: Some(0.25),
+    compare,
+    times,
+    besides: || Ok(()),
+};
+
+fn what() -> String {
+    format!("the check of {} cells of each of {} tracks", thousands(CHECKED), thousands(TRACKS))
+}
 
 // Figure 10 of document 01.
 const TEXT: &[u8] = b"123456789";
 const TEXT_CHECK: u16 = 0x31C3;
-
-// crates/check_export: a slice goes as its start and its length.
-#[link(name = "check_export", kind = "static")]
-extern "C" {
-    fn poplar_check(cells: *const u16, len: usize) -> u16;
-}
-
-#[inline(never)]
-fn proved(cells: &[u16]) -> u16 {
-    // It reads `cells.len()` cells from the start on, all of them lent here, and asks nothing of its caller.
-    unsafe { poplar_check(cells.as_ptr(), cells.len()) }
-}
 
 // LLVM may see what this loop computes and make a table of it by itself; the same holds of the proved loop.
 #[inline(never)]
@@ -41,8 +45,13 @@ fn by_table(cells: &[u16]) -> u16 {
     cells.iter().fold(0, |r, &cell| next_by_table(r, cell))
 }
 
+#[inline(never)]
+fn by_slices(cells: &[u16]) -> u16 {
+    sliced(cells)
+}
+
 type Check = fn(&[u16]) -> u16;
-const CHECKS: [Check; 3] = [proved, by_bits, by_table];
+const PLAIN: [Check; 3] = [by_bits, by_table, by_slices];
 
 // Recorded bytes, 256 + byte.
 fn pack() -> Vec<u16> {
@@ -54,16 +63,17 @@ fn part(pack: &[u16], track: usize) -> &[u16] {
     &pack[track * TRACK_CELLS + FROM..][..CHECKED]
 }
 
-// All three over the same cells: their result, or what each said.
+// All four over the same cells: their result, or what each said.
 fn agreed(what: &str, cells: &[u16]) -> Result<u16, String> {
-    let said = CHECKS.map(|check| check(cells));
-    if said.iter().all(|&r| r == said[0]) {
-        return Ok(said[0]);
+    let proved = (NOW.check)(cells);
+    let plain = PLAIN.map(|check| check(cells));
+    if plain == [proved; 3] {
+        return Ok(proved);
     }
-    Err(format!("{what}: proved, by shifts and by table: {said:04X?}"))
+    Err(format!("{what}: proved {proved:04X}; by shifts, by table and by slices {plain:04X?}"))
 }
 
-pub fn compare() -> Result<(), String> {
+fn compare() -> Result<(), String> {
     let text: Vec<u16> = TEXT.iter().map(|&b| 256 + u16::from(b)).collect();
     let r = agreed("the text 123456789", &text)?;
     if r != TEXT_CHECK {
@@ -86,28 +96,24 @@ pub fn compare() -> Result<(), String> {
             }
         }
     }
-    println!("check: {compared} results of each of the three compared: all the same; the text 123456789 gives {r:04X}");
+    println!("check: {compared} results of each of the four compared: all the same; the text 123456789 gives {r:04X}");
     Ok(())
 }
 
-// Every track by one of the three: its results.
+// Every track by one of them: its results.
 fn results(check: Check, pack: &[u16]) -> Vec<u16> {
     (0..TRACKS).map(|track| check(black_box(part(pack, track)))).collect()
 }
 
-pub fn measure() -> Result<Row, String> {
+fn times(sides: &[Side]) -> Result<Vec<f64>, String> {
     let pack = pack();
     let should = results(by_table, &pack);
-    let medians = in_turn(ROUNDS, 3, |side| {
-        let (ms, is) = timed(|| results(CHECKS[side], &pack));
-        (is == should).then_some(ms).ok_or(format!("check: side {side} differs"))
-    })?;
-    Ok(Row {
-        part: "check",
-        what: format!("the check of {} cells of each of {} tracks", thousands(CHECKED), thousands(TRACKS)),
-        rounds: ROUNDS,
-        proved: medians[0],
-        plain: medians[1..].to_vec(),
-        wanted: Some(WANTED),
+    in_turn(ROUNDS, sides, |&side| {
+        let check = match side {
+            Side::Proved(library) => library.check,
+            Side::Plain(i) => PLAIN[i],
+        };
+        let (ms, is) = timed(|| results(check, &pack));
+        (is == should).then_some(ms).ok_or("check: the results differ".to_string())
     })
 }

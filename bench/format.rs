@@ -1,15 +1,19 @@
-// A chain that formats and fills a pack against two plain loops in Rust.
-use crate::areas::{record_cells, CHECK, MARKER, R0};
+// A chain that formats and fills a pack against plain loops in Rust.
+use crate::areas::{record_cells, MARKER, R0};
 use crate::common::{
-    chained, in_turn, stack, started, status, storage_with, thousands, timed, word, Lent, Row, FIRST, FLAG_CHAIN,
-    FLAG_LENGTH, ONE, SEEK, STATUS, TIC, WORDS,
+    chained, in_turn, status, storage_with, thousands, timed, word, Lent, FIRST, FLAG_CHAIN, FLAG_LENGTH, ONE, SEEK,
+    STATUS, TIC, WORDS,
 };
+use crate::library::NOW;
 use crate::pack::{
     cylinder_and_head, ended, same, same_cells, seek_address, track, Bytes, Left, Load, Record, FIRST_MARKER,
     FULL_LOAD, SEEK_BYTES,
 };
+use crate::part::{Part, Side};
+use crate::plain::{BySlices, Way};
 use crate::remainder::{next_by_bits, next_by_table};
 use crate::single::{self, single, Ends, Moves, Single};
+use crate::stack;
 use poplar::{HELD_SIZE, TRACK_CELLS};
 use std::hint::black_box;
 
@@ -31,7 +35,14 @@ const NO_ROOM: [u8; 2] = [0x00, 0x40];
 const OLD: u16 = 0xE7E7;
 
 const ROUNDS: usize = 21;
-const WANTED: f64 = 2.0;
+
+pub const PART: Part =
+    Part { name: "format", what, rounds: ROUNDS, loops: PLAIN.len(), wanted: Some(0.80), compare, times, besides };
+
+fn what() -> String {
+    let Load { tracks, records, data } = LOAD;
+    format!("a full pack formatted and filled: {} tracks of {records} records of {data} bytes", thousands(tracks))
+}
 
 // ---- the chain
 
@@ -101,32 +112,17 @@ const LOAD: Load = FULL_LOAD;
 // How many records were written; fewer than all where one has no room.
 type Filled = usize;
 
-// An area of these bytes and their check, from a cell on: the cell behind it.
-#[inline(always)]
-fn area(next: impl Fn(u16, u16) -> u16, track: &mut [u16], from: usize, bytes: impl Iterator<Item = u8>) -> usize {
-    let mut r = 0;
-    let mut at = from;
-    for (cell, byte) in track[from..].iter_mut().zip(bytes) {
-        r = next(r, byte.into());
-        *cell = 256 + u16::from(byte);
-        at += 1;
-    }
-    track[at] = 256 + (r >> 8);
-    track[at + 1] = 256 + (r & 255);
-    at + CHECK
-}
-
 // A record's areas.
 #[inline(always)]
-fn record(next: impl Fn(u16, u16) -> u16 + Copy, track: &mut [u16], from: usize, flag: u8, sent: &[u8]) -> usize {
+fn record(way: impl Way, track: &mut [u16], from: usize, flag: u8, sent: &[u8]) -> usize {
     let (count, rest) = sent.split_at(8);
     let (key, data) = rest.split_at(count[5].into());
     let count = std::iter::once(flag).chain(count.iter().copied());
-    let mut at = area(next, track, from, count);
+    let mut at = way.write(track, from, count);
     if !key.is_empty() {
-        at = area(next, track, at, key.iter().copied());
+        at = way.write(track, at, key.iter().copied());
     }
-    area(next, track, at, data.iter().copied())
+    way.write(track, at, data.iter().copied())
 }
 
 // The cells of a record, its marker with them, by its count.
@@ -136,15 +132,15 @@ fn needed(sent: &[u8]) -> usize {
 
 // Every track: home address, R0, its records, and 0 behind them, once.
 #[inline(always)]
-fn fill(next: impl Fn(u16, u16) -> u16 + Copy, storage: &[u8], pack: &mut [u16]) -> Filled {
+fn fill(way: impl Way, storage: &[u8], pack: &mut [u16]) -> Filled {
     let mut records = 0;
     let tracks = storage[sent_at(LOAD, 0)..].chunks_exact(track_bytes(LOAD));
     for (track, bytes) in pack.chunks_exact_mut(TRACK_CELLS).zip(tracks) {
         let (home, bytes) = bytes[SEEK_BYTES..].split_at(HOME_BYTES);
         let (r0, bytes) = bytes.split_at(R0_BYTES);
-        let mut at = area(next, track, 0, home.iter().copied());
+        let mut at = way.write(track, 0, home.iter().copied());
         let mut flag = home[0] & 3;
-        at = record(next, track, at, flag, r0);
+        at = record(way, track, at, flag, r0);
         for sent in bytes.chunks_exact(LOAD.moved()) {
             if at + needed(sent) > TRACK_CELLS {
                 track[at..].fill(0);
@@ -152,7 +148,7 @@ fn fill(next: impl Fn(u16, u16) -> u16 + Copy, storage: &[u8], pack: &mut [u16])
             }
             flag ^= 0x80;
             track[at] = MARKER;
-            at = record(next, track, at + 1, flag, sent);
+            at = record(way, track, at + 1, flag, sent);
             records += 1;
         }
         track[at..].fill(0);
@@ -171,8 +167,13 @@ fn by_table(storage: &[u8], pack: &mut [u16]) -> Filled {
     fill(next_by_table, storage, pack)
 }
 
+#[inline(never)]
+fn by_slices(storage: &[u8], pack: &mut [u16]) -> Filled {
+    fill(BySlices, storage, pack)
+}
+
 type Plain = fn(&[u8], &mut [u16]) -> Filled;
-const PLAIN: [Plain; 2] = [by_bits, by_table];
+const PLAIN: [Plain; 3] = [by_bits, by_table, by_slices];
 
 // ---- the box against them
 
@@ -193,19 +194,18 @@ fn should(laid: &[u8], filled: Filled) -> Left {
 }
 
 // The chain in goes of so many words, and the plain loops, each on a pack of its own: all the same. How many records.
-fn agreed(what: &str, laid: &[u8], packs: &mut [Vec<u16>; 3], allowance: u16) -> Result<Filled, String> {
+fn agreed(what: &str, laid: &[u8], packs: &mut [Vec<u16>; 4], allowance: u16) -> Result<Filled, String> {
     let what = &format!("{what}, {allowance} words a go");
     packs.iter_mut().for_each(|pack| pack.fill(OLD));
     let [proved, plain @ ..] = packs;
-    let filled = [0, 1].map(|i| PLAIN[i](laid, &mut plain[i]));
-    if filled[0] != filled[1] {
+    let filled = [0, 1, 2].map(|i| PLAIN[i](laid, &mut plain[i]));
+    if filled != [filled[0]; 3] {
         return Err(format!("{what}: the plain loops differ: {filled:?}"));
     }
-    let mut begun = started(laid.to_vec(), proved, LOAD.shape())?;
+    let mut begun = NOW.started(laid.to_vec(), proved, LOAD.shape())?;
     let answer = begun.in_goes(proved, LOAD.shape(), allowance, words(LOAD));
     same(what, &begun, answer, &should(laid, filled[0]))?;
-    same_cells(what, proved, &plain[0])?;
-    same_cells(what, proved, &plain[1])?;
+    plain.iter().try_for_each(|cells| same_cells(what, proved, cells))?;
     Ok(filled[0])
 }
 
@@ -217,9 +217,9 @@ const TOO_LONG: &[(&str, usize, usize, u16)] = &[
     ("the last of all", LOAD.tracks - 1, LOAD.records - 1, 65535),
 ];
 
-pub fn compare() -> Result<(), String> {
+fn compare() -> Result<(), String> {
     let mut laid = laid(LOAD);
-    let mut packs = [0, 1, 2].map(|_| vec![OLD; LOAD.cells()]);
+    let mut packs = [0, 1, 2, 3].map(|_| vec![OLD; LOAD.cells()]);
     let full = LOAD.pack();
     let mut compared = 0;
     for allowance in [WORDS as u16, 1000, words(LOAD) as u16] {
@@ -249,36 +249,27 @@ pub fn compare() -> Result<(), String> {
     Ok(())
 }
 
-pub fn measure() -> Result<Row, String> {
+fn times(sides: &[Side]) -> Result<Vec<f64>, String> {
     let laid = laid(LOAD);
     let full = LOAD.pack();
     let mut pack = vec![OLD; LOAD.cells()];
     let should = should(&laid, LOAD.all_records());
-    let medians = in_turn(ROUNDS, 3, |side| {
+    in_turn(ROUNDS, sides, |&side| {
         pack.fill(OLD);
-        let mut begun = started(laid.clone(), &mut pack, LOAD.shape())?;
-        let ms = if side == 0 {
-            let (ms, answer) = begun.timed(&mut pack, LOAD.shape(), WORDS as u16);
-            same("format", &begun, answer, &should)?;
-            ms
-        } else {
-            timed(|| PLAIN[side - 1](black_box(&begun.storage), black_box(&mut pack))).0
+        let ms = match side {
+            Side::Proved(library) => {
+                let mut begun = library.started(laid.clone(), &mut pack, LOAD.shape())?;
+                let (ms, answer) = begun.timed(&mut pack, LOAD.shape(), WORDS as u16);
+                same("format", &begun, answer, &should)?;
+                ms
+            }
+            Side::Plain(i) => {
+                let storage = laid.clone();
+                timed(|| PLAIN[i](black_box(&storage), black_box(&mut pack))).0
+            }
         };
         same_cells("format", &pack, &full)?;
         Ok(ms)
-    })?;
-    Ok(Row {
-        part: "format",
-        what: format!(
-            "a full pack formatted and filled: {} tracks of {} records of {} bytes",
-            thousands(LOAD.tracks),
-            LOAD.records,
-            LOAD.data
-        ),
-        rounds: ROUNDS,
-        proved: medians[0],
-        plain: medians[1..].to_vec(),
-        wanted: Some(WANTED),
     })
 }
 
@@ -364,8 +355,7 @@ pub fn lent(load: Load) -> Lent {
     Lent { storage: laid(load), cells: vec![0; load.cells()], shape: load.shape() }
 }
 
-pub fn besides() -> Result<(), String> {
-    let most = stack(vec![lent(LOAD), every_write()])?;
-    println!("format: stack used by go: {most} bytes");
+fn besides() -> Result<(), String> {
+    stack::print("format", vec![lent(LOAD), every_write()])?;
     single::print(&singles()?)
 }

@@ -1,7 +1,8 @@
 // The box's time at n, 2n and 4n command words, records of a track, and tracks.
 use crate::common::{
-    chained, in_turn, started, status, storage_with, thousands, word, Lent, FIRST, FULL, ONE, SEEK, STATUS, WORDS,
+    chained, in_turn, status, storage_with, thousands, word, Lent, FIRST, FULL, ONE, SEEK, STATUS, WORDS,
 };
+use crate::library::NOW;
 use crate::pack::{seek_address, Load, SEEK_BYTES};
 use crate::{format, noop, reads};
 use poplar::TRACK_CELLS;
@@ -39,7 +40,7 @@ impl Case {
     // One go, to the normal end of the last word.
     fn timed(&mut self) -> Result<f64, String> {
         let Lent { storage, cells, shape } = &mut self.lent;
-        let mut begun = started(storage.clone(), cells, *shape)?;
+        let mut begun = NOW.started(storage.clone(), cells, *shape)?;
         let (ms, answer) = begun.timed(cells, *shape, WORDS as u16);
         let normal = begun.storage[STATUS] == status(self.words, 0x0C, self.left);
         normal.then_some(ms).ok_or(format!("growth: {} words end otherwise: {answer:?}", self.words))
@@ -97,7 +98,7 @@ fn rows() -> [(String, fn(usize) -> Case); 6] {
 pub fn measure() -> Result<Vec<Growth>, String> {
     let one = |(what, case): (String, fn(usize) -> Case)| {
         let mut cases = [1, 2, 4].map(case);
-        let times = in_turn(ROUNDS, cases.len(), |side| cases[side].timed())?;
+        let times = in_turn(ROUNDS, &[0, 1, 2], |&i| cases[i].timed())?;
         Ok(Growth { what, times: [times[0], times[1], times[2]] })
     };
     rows().into_iter().map(one).collect()

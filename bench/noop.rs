@@ -1,13 +1,21 @@
 // A chain of No-op command words against a plain loop in Rust; and what a refusal costs.
 use crate::common::{
-    chained, in_turn, stack, started, storage_with, thousands, timed, word, Lent, Row, FIRST, FLAG_CHAIN, FLAG_LENGTH,
-    FULL, NO_OP, ONE, STATUS, TIC, WORDS,
+    chained, in_turn, storage_with, thousands, timed, word, Lent, FIRST, FLAG_CHAIN, FLAG_LENGTH, FULL, NO_OP, ONE,
+    STATUS, TIC, WORDS,
 };
-use poplar::{Answer, Held, Shape, HELD_SIZE, TRACK_CELLS};
+use crate::library::NOW;
+use crate::part::{Part, Side};
+use crate::stack;
+use poplar::{Answer, Shape, HELD_SIZE, TRACK_CELLS};
 use std::hint::black_box;
 
 const ROUNDS: usize = 201;
-const WANTED: f64 = 2.0;
+
+pub const PART: Part = Part { name: "noop", what, rounds: ROUNDS, loops: 1, wanted: None, compare, times, besides };
+
+fn what() -> String {
+    format!("a chain of {} No-op words", thousands(WORDS))
+}
 
 // A refusal is too short to be timed alone.
 const REFUSALS: usize = 10_000;
@@ -174,10 +182,10 @@ fn agreed(what: &str, storage: &[u8], packs: &mut [(Shape, Vec<u16>); 2], allowa
     let what = &format!("{what}, {allowance} words");
     let mut all = Vec::new();
     for (shape, cells) in packs {
-        let mut begun = started(storage.to_vec(), cells, *shape)?;
-        let mut plain_begun = (*begun.held.bytes(), begun.storage.clone());
-        let answer = poplar::go(&mut begun.held, &mut begun.storage, cells, *shape, allowance);
-        let proved = left(Some(answer), begun.held.bytes(), &begun.storage);
+        let mut begun = NOW.started(storage.to_vec(), cells, *shape)?;
+        let mut plain_begun = (begun.held, begun.storage.clone());
+        let answer = begun.go(cells, *shape, allowance);
+        let proved = left(Some(answer), &begun.held, &begun.storage);
         let answer = plain(&mut plain_begun.0, &mut plain_begun.1, allowance);
         let other = left(answer, &plain_begun.0, &plain_begun.1);
         same(what, "plain", &proved, &other)?;
@@ -217,7 +225,7 @@ fn chains() -> Vec<(&'static str, Vec<[u8; 8]>)> {
     ]
 }
 
-pub fn compare() -> Result<(), String> {
+fn compare() -> Result<(), String> {
     let mut packs = packs();
     let mut compared = 0;
     let storage = laid(WORDS);
@@ -242,31 +250,48 @@ pub fn compare() -> Result<(), String> {
 }
 
 // All the words by the plain loop, or by a go on one of the packs: milliseconds, and what it leaves.
-fn one(plain_loop: bool, (shape, cells): &mut (Shape, Vec<u16>), storage: &mut Vec<u8>) -> Result<(f64, Left), String> {
+fn one(side: Side, (shape, cells): &mut (Shape, Vec<u16>), storage: &mut Vec<u8>) -> Result<(f64, Left), String> {
     storage[STATUS].fill(0xE7);
-    let mut begun = started(std::mem::take(storage), cells, *shape)?;
-    let mut held = *begun.held.bytes();
-    let (ms, answer) = if plain_loop {
-        let lent = black_box(&mut begun.storage[..]);
-        timed(|| plain(black_box(&mut held), lent, WORDS as u16))
-    } else {
-        let (ms, answer) = begun.timed(cells, *shape, WORDS as u16);
-        held = *begun.held.bytes();
-        (ms, Some(answer))
+    let library = if let Side::Proved(library) = side { library } else { &NOW };
+    let mut begun = library.started(std::mem::take(storage), cells, *shape)?;
+    let (ms, answer) = match side {
+        Side::Proved(_) => {
+            let (ms, answer) = begun.timed(cells, *shape, WORDS as u16);
+            (ms, Some(answer))
+        }
+        Side::Plain(_) => {
+            let lent = black_box(&mut begun.storage[..]);
+            timed(|| plain(black_box(&mut begun.held), lent, WORDS as u16))
+        }
     };
-    let result = left(answer, &held, &begun.storage);
+    let result = left(answer, &begun.held, &begun.storage);
     *storage = begun.storage;
     Ok((ms, result))
 }
 
-// The medians on one track, on a full pack, and of the plain loop.
-fn medians() -> Result<Vec<f64>, String> {
+// A side with the packs that it goes on: a box with each, the plain loop, which looks at none, with the first.
+fn on_packs(&side: &Side) -> Vec<(Side, usize)> {
+    match side {
+        Side::Proved(_) => vec![(side, 0), (side, 1)],
+        Side::Plain(_) => vec![(side, 0)],
+    }
+}
+
+// Of a box the slower pack counts.
+fn times(sides: &[Side]) -> Result<Vec<f64>, String> {
+    let all: Vec<(Side, usize)> = sides.iter().flat_map(on_packs).collect();
+    let mut medians = medians(&all)?.into_iter();
+    let mut slowest = |n: usize| medians.by_ref().take(n).fold(0.0, f64::max);
+    Ok(sides.iter().map(|side| slowest(on_packs(side).len())).collect())
+}
+
+fn medians(all: &[(Side, usize)]) -> Result<Vec<f64>, String> {
     let mut packs = packs();
     let as_laid = laid(WORDS);
     let should = agreed("No-ops", &as_laid, &mut packs, WORDS as u16)?;
     let mut storage = as_laid.clone();
-    in_turn(ROUNDS, 3, |side| {
-        let (ms, result) = one(side == 2, &mut packs[side % 2], &mut storage)?;
+    in_turn(ROUNDS, all, |&(side, pack)| {
+        let (ms, result) = one(side, &mut packs[pack], &mut storage)?;
         same("No-ops", "this", &should, &result)?;
         storage[STATUS].copy_from_slice(&as_laid[STATUS]);
         let same = storage == as_laid;
@@ -274,22 +299,14 @@ fn medians() -> Result<Vec<f64>, String> {
     })
 }
 
-pub fn measure() -> Result<Row, String> {
-    let medians = medians()?;
-    Ok(Row {
-        part: "noop",
-        what: format!("a chain of {} No-op words", thousands(WORDS)),
-        rounds: ROUNDS,
-        proved: medians[0].max(medians[1]),
-        plain: vec![medians[2]],
-        wanted: Some(WANTED),
-    })
-}
-
 // Nanoseconds of one refusal, of many.
-fn refused(held: &mut Held, storage: &mut [u8], (shape, cells): &mut (Shape, Vec<u16>)) -> Result<f64, String> {
+fn refused(
+    held: &mut [u8; HELD_SIZE],
+    storage: &mut [u8],
+    (shape, cells): &mut (Shape, Vec<u16>),
+) -> Result<f64, String> {
     let (ms, refused) = timed(|| {
-        let mut go = || poplar::go(black_box(held), storage, cells, *shape, 1);
+        let mut go = || poplar::go_raw(black_box(held), storage, cells, *shape, 1);
         (0..REFUSALS).filter(|_| go() == Answer::BadHeld).count()
     });
     let all = refused == REFUSALS;
@@ -302,12 +319,11 @@ fn refusals() -> Result<Vec<f64>, String> {
     let mut storage = laid(1);
     let mut helds = Vec::new();
     for (shape, cells) in &mut packs {
-        let begun = started(storage.clone(), cells, *shape)?;
-        let mut bytes = *begun.held.bytes();
-        bytes[1] = 16;
-        helds.push(Held::from_bytes(bytes));
+        let mut held = NOW.started(storage.clone(), cells, *shape)?.held;
+        held[1] = 16;
+        helds.push(held);
     }
-    in_turn(ROUNDS, 2, |side| refused(&mut helds[side], &mut storage, &mut packs[side]))
+    in_turn(ROUNDS, &[0, 1], |&i| refused(&mut helds[i], &mut storage, &mut packs[i]))
 }
 
 // Every control command once. The six bytes at 160 are a seek's address and a mask; the last ends in a Unit Check.
@@ -323,10 +339,9 @@ fn controls() -> Vec<u8> {
     storage
 }
 
-pub fn besides() -> Result<(), String> {
+fn besides() -> Result<(), String> {
     let chains = [laid(WORDS), controls()];
-    let most = stack(chains.map(|storage| Lent { storage, cells: vec![0; TRACK_CELLS], shape: ONE }).into())?;
-    println!("noop: stack used by go: {most} bytes");
+    stack::print("noop", chains.map(|storage| Lent { storage, cells: vec![0; TRACK_CELLS], shape: ONE }).into())?;
     let refusals = refusals()?;
     println!("noop: refusal of a bad key: {:.1} ns on 1 track, {:.1} ns on a full pack", refusals[0], refusals[1]);
     Ok(())

@@ -182,8 +182,8 @@ pub fn same(what: &str, begun: &Started, answer: Answer, should: &Left) -> Resul
     if answer != Answer::Ended {
         return Err(format!("{what}: the answer is {answer:?}"));
     }
-    if begun.held.bytes() != held {
-        let is = begun.held.bytes();
+    if begun.held != *held {
+        let is = begun.held;
         return Err(format!("{what}: held differs: {is:02X?}, not {held:02X?}"));
     }
     match (0..storage.len()).find(|&i| begun.storage[i] != storage[i]) {

@@ -1,15 +1,19 @@
-// A chain that reads every record of a pack against two plain loops in Rust.
+// A chain that reads every record of a pack against plain loops in Rust.
 use crate::areas::{count, data, data_cells, key, key_cells, lengths, CHECK, COUNT_CELLS, MARKER, R0};
 use crate::common::{
-    chained, in_turn, stack, started, status, storage_with, thousands, timed, word, Lent, Row, FIRST, FLAG_CHAIN,
-    FLAG_LENGTH, ONE, SEEK, STATUS, WORDS,
+    chained, in_turn, status, storage_with, thousands, timed, word, Lent, FIRST, FLAG_CHAIN, FLAG_LENGTH, ONE, SEEK,
+    STATUS, WORDS,
 };
+use crate::library::NOW;
 use crate::pack::{
     cylinder_and_head, ended, same, seek_address, track, Bytes, Left, Load, Record, Track, FIRST_MARKER, FULL_LOAD,
     SEEK_BYTES,
 };
+use crate::part::{Part, Side};
+use crate::plain::{BySlices, Way};
 use crate::remainder::{next_by_bits, next_by_table};
 use crate::single::{self, single, Ends, Moves, Single};
+use crate::stack;
 use poplar::{HELD_SIZE, TRACK_CELLS};
 use std::hint::black_box;
 
@@ -18,7 +22,14 @@ const READ_COUNT: u8 = 0x12;
 const READ_ALL: u8 = 0x1E;
 
 const ROUNDS: usize = 21;
-const WANTED: f64 = 2.0;
+
+pub const PART: Part =
+    Part { name: "reads", what, rounds: ROUNDS, loops: PLAIN.len(), wanted: Some(0.60), compare, times, besides };
+
+fn what() -> String {
+    let Load { tracks, records, data } = LOAD;
+    format!("every record of a full pack read: {} tracks of {records} records of {data} bytes", thousands(tracks))
+}
 
 // ---- the chain
 
@@ -71,18 +82,13 @@ struct Walked {
 
 // One record's bytes, copied to the front of `into`: how many there are, and the cell behind the record.
 #[inline(always)]
-fn copied(
-    next: impl Fn(u16, u16) -> u16 + Copy,
-    track: &[u16],
-    marker: usize,
-    into: &mut [u8],
-) -> Result<(usize, usize), [u8; 2]> {
-    let count = count(next, track, marker + 1)?;
+fn copied(way: impl Way, track: &[u16], marker: usize, into: &mut [u8]) -> Result<(usize, usize), [u8; 2]> {
+    let count = count(way, track, marker + 1)?;
     let (kl, dl) = lengths(count);
     let at = marker + 1 + COUNT_CELLS;
-    let key = key(next, track, at, kl)?;
+    let key = key(way, track, at, kl)?;
     let at = at + key_cells(kl);
-    let data = data(next, track, at, dl)?;
+    let data = data(way, track, at, dl)?;
     let mut to = 0;
     for part in [&count[1..], key, data] {
         for (byte, cell) in into[to..to + part.len()].iter_mut().zip(part) {
@@ -95,18 +101,18 @@ fn copied(
 
 // Every track, record by record by its counts. R0's count says where the first record is; its data are passed over.
 #[inline(always)]
-fn walk(next: impl Fn(u16, u16) -> u16 + Copy, pack: &[u16], into: &mut [u8]) -> Walked {
+fn walk(way: impl Way, pack: &[u16], into: &mut [u8]) -> Walked {
     let mut records = 0;
     let mut to = 0;
     for track in pack.chunks_exact(TRACK_CELLS) {
         let stopped = |records, sense| Walked { records, sense: Some(sense) };
-        let (kl, dl) = match count(next, track, R0) {
+        let (kl, dl) = match count(way, track, R0) {
             Ok(count) => lengths(count),
             Err(sense) => return stopped(records, sense),
         };
         let mut at = R0 + COUNT_CELLS + key_cells(kl) + data_cells(dl);
         while track.get(at) == Some(&MARKER) {
-            match copied(next, track, at, &mut into[to..]) {
+            match copied(way, track, at, &mut into[to..]) {
                 Ok((moved, behind)) => {
                     to += moved;
                     at = behind;
@@ -130,8 +136,13 @@ fn by_table(pack: &[u16], into: &mut [u8]) -> Walked {
     walk(next_by_table, pack, into)
 }
 
+#[inline(never)]
+fn by_slices(pack: &[u16], into: &mut [u8]) -> Walked {
+    walk(BySlices, pack, into)
+}
+
 type Plain = fn(&[u16], &mut [u8]) -> Walked;
-const PLAIN: [Plain; 2] = [by_bits, by_table];
+const PLAIN: [Plain; 3] = [by_bits, by_table, by_slices];
 
 // ---- the box against them
 
@@ -163,13 +174,13 @@ fn should(laid: &[u8], walked: Walked, copied: &[u8]) -> Left {
 // The chain in goes of so many words, and the plain loops: all the same. How far they walked.
 fn agreed(what: &str, laid: &[u8], pack: &mut [u16], allowance: u16) -> Result<Walked, String> {
     let what = &format!("{what}, {allowance} words a go");
-    let mut copies = [0, 1].map(|_| vec![0; LOAD.moved() * LOAD.all_records()]);
-    let walks = [0, 1].map(|i| PLAIN[i](pack, &mut copies[i]));
+    let mut copies = PLAIN.map(|_| vec![0; LOAD.moved() * LOAD.all_records()]);
+    let walks = [0, 1, 2].map(|i| PLAIN[i](pack, &mut copies[i]));
     let bytes = walks[0].records * LOAD.moved();
-    if walks[0] != walks[1] || copies[0][..bytes] != copies[1][..bytes] {
+    if (1..PLAIN.len()).any(|i| walks[i] != walks[0] || copies[i][..bytes] != copies[0][..bytes]) {
         return Err(format!("{what}: the plain loops differ: {walks:02X?}"));
     }
-    let mut begun = started(laid.to_vec(), pack, LOAD.shape())?;
+    let mut begun = NOW.started(laid.to_vec(), pack, LOAD.shape())?;
     let answer = begun.in_goes(pack, LOAD.shape(), allowance, words(LOAD));
     same(what, &begun, answer, &should(laid, walks[0], &copies[0]))?;
     Ok(walks[0])
@@ -185,7 +196,7 @@ const DAMAGE: &[(&str, usize, usize, usize, u16)] = &[
     ("the last check of all", LOAD.tracks - 1, LOAD.records - 1, COUNT_CELLS + LOAD.data + CHECK, 0x01FF),
 ];
 
-pub fn compare() -> Result<(), String> {
+fn compare() -> Result<(), String> {
     let laid = laid(LOAD);
     let mut pack = LOAD.pack();
     let as_written = pack.clone();
@@ -218,36 +229,25 @@ pub fn compare() -> Result<(), String> {
     Ok(())
 }
 
-pub fn measure() -> Result<Row, String> {
+fn times(sides: &[Side]) -> Result<Vec<f64>, String> {
     let laid = laid(LOAD);
     let mut pack = LOAD.pack();
     let mut copy = vec![0; LOAD.moved() * LOAD.all_records()];
     let walked = by_table(&pack, &mut copy);
     let should = should(&laid, walked, &copy);
     let mut into = vec![0; copy.len()];
-    let medians = in_turn(ROUNDS, 3, |side| {
-        if side == 0 {
-            let mut begun = started(laid.clone(), &mut pack, LOAD.shape())?;
+    in_turn(ROUNDS, sides, |&side| match side {
+        Side::Proved(library) => {
+            let mut begun = library.started(laid.clone(), &mut pack, LOAD.shape())?;
             let (ms, answer) = begun.timed(&mut pack, LOAD.shape(), WORDS as u16);
-            return same("reads", &begun, answer, &should).map(|()| ms);
+            same("reads", &begun, answer, &should).map(|()| ms)
         }
-        into.fill(0xE7);
-        let (ms, is) = timed(|| PLAIN[side - 1](black_box(&pack), black_box(&mut into)));
-        let same = is == walked && into == copy;
-        same.then_some(ms).ok_or("the plain loops differ".to_string())
-    })?;
-    Ok(Row {
-        part: "reads",
-        what: format!(
-            "every record of a full pack read: {} tracks of {} records of {} bytes",
-            thousands(LOAD.tracks),
-            LOAD.records,
-            LOAD.data
-        ),
-        rounds: ROUNDS,
-        proved: medians[0],
-        plain: medians[1..].to_vec(),
-        wanted: Some(WANTED),
+        Side::Plain(i) => {
+            into.fill(0xE7);
+            let (ms, is) = timed(|| PLAIN[i](black_box(&pack), black_box(&mut into)));
+            let same = is == walked && into == copy;
+            same.then_some(ms).ok_or("the plain loops differ".to_string())
+        }
     })
 }
 
@@ -344,8 +344,7 @@ pub fn lent(load: Load) -> Lent {
     Lent { storage: laid(load), cells: load.pack(), shape: load.shape() }
 }
 
-pub fn besides() -> Result<(), String> {
-    let most = stack(vec![lent(LOAD), every_command()])?;
-    println!("reads: stack used by go: {most} bytes");
+fn besides() -> Result<(), String> {
+    stack::print("reads", vec![lent(LOAD), every_command()])?;
     single::print(&singles()?)
 }

@@ -1,11 +1,15 @@
-// A chain that searches a track by key, again and again, against two plain loops in Rust.
+// A chain that searches a track by key, again and again, against plain loops in Rust.
 use crate::areas::{count, key, lengths, record_cells, CHECK, COUNT_CELLS, MARKER, R0, UNREADABLE, UNREADABLE_COUNT};
 use crate::common::{
-    in_turn, stack, started, status, storage_with, thousands, timed, word, Lent, Row, FIRST, FLAG_CHAIN, NO_OP, ONE,
-    SEEK, STATUS, TIC, WORDS,
+    in_turn, status, storage_with, thousands, timed, word, Lent, FIRST, FLAG_CHAIN, NO_OP, ONE, SEEK, STATUS, TIC,
+    WORDS,
 };
+use crate::library::NOW;
 use crate::pack::{ended, same, track, Bytes, Left, Record, FIRST_MARKER, SEEK_BYTES};
+use crate::part::{Part, Side};
+use crate::plain::{BySlices, Way};
 use crate::remainder::{next_by_bits, next_by_table};
+use crate::stack;
 use poplar::TRACK_CELLS;
 use std::hint::black_box;
 
@@ -20,6 +24,14 @@ const RECORD_CELLS: usize = record_cells(KEY, DATA);
 const SECOND_INDEX: [u8; 2] = [0x00, 0x08];
 
 const ROUNDS: usize = 51;
+
+pub const PART: Part =
+    Part { name: "search", what, rounds: ROUNDS, loops: PLAIN.len(), wanted: None, compare, times, besides };
+
+fn what() -> String {
+    let (searches, words) = (thousands(SEARCHES), thousands(SEARCHES * RUN + 1));
+    format!("{searches} searches by key over a track of {RECORDS} records, key {KEY}, data {DATA}: {words} words")
+}
 
 // ---- the chain
 
@@ -70,22 +82,22 @@ type Found = Result<usize, (usize, [u8; 2])>;
 
 // Whether a record's count and key can be read, and its key is the one that is sought.
 #[inline(always)]
-fn is_it(next: impl Fn(u16, u16) -> u16 + Copy, track: &[u16], marker: usize, sought: &[u8]) -> Result<bool, [u8; 2]> {
-    let (kl, _) = lengths(count(next, track, marker + 1)?);
-    let key = key(next, track, marker + 1 + COUNT_CELLS, kl)?;
+fn is_it(way: impl Way, track: &[u16], marker: usize, sought: &[u8]) -> Result<bool, [u8; 2]> {
+    let (kl, _) = lengths(count(way, track, marker + 1)?);
+    let key = key(way, track, marker + 1 + COUNT_CELLS, kl)?;
     let same = key.iter().zip(sought).all(|(&cell, &byte)| cell & 255 == u16::from(byte));
     Ok(kl > 0 && same)
 }
 
 // From the index on, marker by marker, each looked for cell by cell as the head passes it, and once more round.
 #[inline(always)]
-fn walk(next: impl Fn(u16, u16) -> u16 + Copy, track: &[u16], sought: &[u8]) -> Found {
+fn walk(way: impl Way, track: &[u16], sought: &[u8]) -> Found {
     let mut place = 0;
     for _ in 0..2 {
         let mut from = R0;
         while let Some(cells) = track[from..].iter().position(|&cell| cell == MARKER) {
             let marker = from + cells;
-            if is_it(next, track, marker, sought).map_err(|sense| (place, sense))? {
+            if is_it(way, track, marker, sought).map_err(|sense| (place, sense))? {
                 return Ok(marker);
             }
             from = marker + 1;
@@ -106,8 +118,13 @@ fn by_table(track: &[u16], sought: &[u8]) -> Found {
     walk(next_by_table, track, sought)
 }
 
+#[inline(never)]
+fn by_slices(track: &[u16], sought: &[u8]) -> Found {
+    walk(BySlices, track, sought)
+}
+
 type Plain = fn(&[u16], &[u8]) -> Found;
-const PLAIN: [Plain; 2] = [by_bits, by_table];
+const PLAIN: [Plain; 3] = [by_bits, by_table, by_slices];
 
 // ---- the box against them
 
@@ -126,11 +143,11 @@ fn should(laid: &[u8], found: Found) -> Left {
 fn agreed(what: &str, key: &[u8], cells: &mut [u16], allowance: u16) -> Result<Found, String> {
     let what = &format!("{what}, {allowance} words a go");
     let found = PLAIN.map(|plain| plain(cells, key));
-    if found[0] != found[1] {
+    if found != [found[0]; 3] {
         return Err(format!("{what}: the plain loops differ: {found:02X?}"));
     }
     let laid = laid(key);
-    let mut begun = started(laid.clone(), cells, ONE)?;
+    let mut begun = NOW.started(laid.clone(), cells, ONE)?;
     let answer = begun.in_goes(cells, ONE, allowance, WORDS);
     same(what, &begun, answer, &should(&laid, found[0]))?;
     Ok(found[0])
@@ -146,7 +163,7 @@ const DAMAGE: &[Damage] = &[
     ("data", 7, COUNT_CELLS + KEY + CHECK + 40, 0, None),
 ];
 
-pub fn compare() -> Result<(), String> {
+fn compare() -> Result<(), String> {
     let mut cells = full_track();
     let as_written = cells.clone();
     let mut compared = 0;
@@ -185,37 +202,25 @@ fn searched(plain: Plain, cells: &[u16], key: &[u8]) -> Option<Found> {
     same.then_some(first)
 }
 
-pub fn measure() -> Result<Row, String> {
+fn times(sides: &[Side]) -> Result<Vec<f64>, String> {
     let key = key_of(RECORDS);
     let mut cells = full_track();
     let laid = laid(&key);
     let found = by_table(&cells, &key);
     let should = should(&laid, found);
-    let medians = in_turn(ROUNDS, 3, |side| {
-        if side == 0 {
-            let mut begun = started(laid.clone(), &mut cells, ONE)?;
+    in_turn(ROUNDS, sides, |&side| match side {
+        Side::Proved(library) => {
+            let mut begun = library.started(laid.clone(), &mut cells, ONE)?;
             let (ms, answer) = begun.timed(&mut cells, ONE, WORDS as u16);
-            return same("search", &begun, answer, &should).map(|()| ms);
+            same("search", &begun, answer, &should).map(|()| ms)
         }
-        let (ms, is) = timed(|| searched(PLAIN[side - 1], &cells, &key));
-        (is == Some(found)).then_some(ms).ok_or("the plain loops differ".to_string())
-    })?;
-    Ok(Row {
-        part: "search",
-        what: format!(
-            "{} searches by key over a track of {RECORDS} records, key {KEY}, data {DATA}: {} words",
-            thousands(SEARCHES),
-            thousands(SEARCHES * RUN + 1)
-        ),
-        rounds: ROUNDS,
-        proved: medians[0],
-        plain: medians[1..].to_vec(),
-        wanted: None,
+        Side::Plain(i) => {
+            let (ms, is) = timed(|| searched(PLAIN[i], &cells, &key));
+            (is == Some(found)).then_some(ms).ok_or("the plain loops differ".to_string())
+        }
     })
 }
 
-pub fn besides() -> Result<(), String> {
-    let most = stack(vec![Lent { storage: laid(&key_of(RECORDS)), cells: full_track(), shape: ONE }])?;
-    println!("search: stack used by go: {most} bytes");
-    Ok(())
+fn besides() -> Result<(), String> {
+    stack::print("search", vec![Lent { storage: laid(&key_of(RECORDS)), cells: full_track(), shape: ONE }])
 }

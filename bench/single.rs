@@ -1,7 +1,8 @@
 // Single command words, each on a track of its own, where they have the most to do: what each leaves, and its time.
-use crate::common::{in_turn, started, status, storage_with, word, Started, FIRST, ONE, STATUS};
+use crate::common::{in_turn, status, storage_with, word, Started, FIRST, ONE, STATUS};
+use crate::library::NOW;
 use crate::pack::{same, same_cells, Left};
-use poplar::{Held, HELD_SIZE};
+use poplar::HELD_SIZE;
 
 const AREA: usize = FIRST + 8;
 const ROUNDS: usize = 501;
@@ -42,10 +43,8 @@ pub fn single(
     let one = word(moves.code, AREA as u32, 0, moves.count as u16);
     let mut storage = storage_with(AREA + moves.count, std::iter::once(one));
     storage[AREA..][..moves.sent.len()].copy_from_slice(moves.sent);
-    let mut begun = started(storage, &mut cells, ONE)?;
-    let mut bytes = *begun.held.bytes();
-    change(&mut bytes);
-    begun.held = Held::from_bytes(bytes);
+    let mut begun = NOW.started(storage, &mut cells, ONE)?;
+    change(&mut begun.held);
     let mut storage = begun.storage.clone();
     storage[AREA..][..moves.stored.len()].copy_from_slice(moves.stored);
     storage[STATUS].copy_from_slice(&status(1, ends.unit, ends.left as u16));
@@ -65,7 +64,7 @@ impl Single {
 }
 
 pub fn print(words: &[Single]) -> Result<(), String> {
-    let medians = in_turn(ROUNDS, words.len(), |i| words[i].timed())?;
+    let medians = in_turn(ROUNDS, words, Single::timed)?;
     println!("single words, microseconds, medians of {ROUNDS} rounds in turn");
     for (word, ms) in words.iter().zip(medians) {
         println!("    {:<30} {:>7.2}", word.name, ms * 1e3);

@@ -1,6 +1,6 @@
 // The two tables, on the screen and in Markdown, and the machine's name.
-use crate::common::Row;
 use crate::growth::{self, Growth};
+use crate::part::{Part, Row};
 use std::thread;
 
 pub fn machine() -> String {
@@ -12,19 +12,27 @@ pub fn machine() -> String {
 }
 
 // A bar, where one is set.
-fn at_most(wanted: Option<f64>) -> String {
+pub fn at_most(wanted: Option<f64>) -> String {
     wanted.map_or("-".to_string(), |ratio| format!("{ratio:.2}"))
 }
 
+// The time of the loop by slices and the ratio to it, or a dash each.
+fn sliced(row: &Row) -> [String; 2] {
+    row.sliced().map_or(["-", "-"].map(str::to_string), |(ms, ratio)| [ms, ratio].map(|n| format!("{n:.2}")))
+}
+
 pub fn print_rows(rows: &[Row]) {
-    println!("milliseconds, medians of rounds in turn, results all the same; ratio: proved to the faster plain loop");
-    println!("{:<8}{:>6}{:>9}{:>9}{:>9}{:>7}{:>9}", "", "rounds", "proved", "shifts", "table", "ratio", "at most");
+    println!("milliseconds, medians of rounds in turn, results all the same; ratio: proved to the faster of shifts and table,");
+    println!("which go byte by byte; beside it plain Rust by slicing by 8, and the ratio to that");
+    print!("{:<8}{:>6}{:>9}{:>9}{:>9}", "", "rounds", "proved", "shifts", "table");
+    println!("{:>7}{:>9}{:>9}{:>7}", "ratio", "at most", "slicing", "ratio");
     for row in rows {
-        let Row { part, what, rounds, proved, plain, wanted } = row;
+        let Row { part, proved, plain } = row;
         let table = plain.get(1).map_or("-".to_string(), |ms| format!("{ms:.2}"));
-        let (first, ratio) = (plain[0], row.ratio());
-        let most = at_most(*wanted);
-        println!("{part:<8}{rounds:>6}{proved:>9.2}{first:>9.2}{table:>9}{ratio:>7.2}{most:>9}   {what}");
+        let (first, ratio, most) = (plain[0], row.ratio(), at_most(part.wanted));
+        let [slicing, to_slicing] = sliced(row);
+        print!("{:<8}{:>6}{proved:>9.2}{first:>9.2}{table:>9}{ratio:>7.2}{most:>9}", part.name, part.rounds);
+        println!("{slicing:>9}{to_slicing:>7}   {}", (part.what)());
     }
     println!();
 }
@@ -42,13 +50,13 @@ pub fn print_growths(growths: &[Growth]) {
 
 // The README's tables.
 pub fn markdown(rows: &[Row], growths: &[Growth]) {
-    println!("On {}. Milliseconds, each the median of rounds in turn;", machine());
-    println!("the ratio is to the faster of the plain Rust loops.\n");
-    println!("| | Rounds | Box | Plain Rust | Ratio | At most |\n|---|---:|---:|---:|---:|---:|");
+    println!("On {}. Milliseconds, each the median of rounds in turn.\n", machine());
+    println!("| | Rounds | Box | Plain Rust | Ratio | At most | Slicing by 8 | Ratio to it |");
+    println!("|---|---:|---:|---:|---:|---:|---:|---:|");
     for row in rows {
-        let Row { what, rounds, proved, wanted, .. } = row;
-        let most = at_most(*wanted);
-        println!("| {what} | {rounds} | {proved:.2} | {:.2} | {:.2} | {most} |", row.fastest(), row.ratio());
+        let Row { part, proved, .. } = row;
+        print!("| {} | {} | {proved:.2} | {:.2} ", (part.what)(), part.rounds, row.fastest());
+        println!("| {:.2} | {} | {} |", row.ratio(), at_most(part.wanted), sliced(row).join(" | "));
     }
     println!("\nHow the box's time grows, {} rounds; a step may take at most {:.1}:\n", growth::ROUNDS, growth::WANTED);
     println!("| n | At n | At 2n | At 4n | Steps |\n|---|---:|---:|---:|---:|");
@@ -58,8 +66,13 @@ pub fn markdown(rows: &[Row], growths: &[Growth]) {
     }
 }
 
-// The ratios alone, as the end of a line of a Markdown table.
+// The end of a line of a Markdown table: the ratios alone, and the bars.
 pub fn ratios(rows: &[Row]) {
     let each: Vec<String> = rows.iter().map(|row| format!("{:.2}", row.ratio())).collect();
+    println!(" {} |", each.join(" | "));
+}
+
+pub fn bars(parts: &[&Part]) {
+    let each: Vec<String> = parts.iter().map(|part| at_most(part.wanted)).collect();
     println!(" {} |", each.join(" | "));
 }
