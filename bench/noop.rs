@@ -6,7 +6,7 @@ use crate::common::{
 use crate::library::NOW;
 use crate::part::{Part, Side};
 use crate::stack;
-use poplar::{Answer, Shape, HELD_SIZE, TRACK_CELLS};
+use poplar::{Answer, Held, Shape, HELD_SIZE, TRACK_CELLS};
 use std::hint::black_box;
 
 const ROUNDS: usize = 201;
@@ -300,13 +300,9 @@ fn medians(all: &[(Side, usize)]) -> Result<Vec<f64>, String> {
 }
 
 // Nanoseconds of one refusal, of many.
-fn refused(
-    held: &mut [u8; HELD_SIZE],
-    storage: &mut [u8],
-    (shape, cells): &mut (Shape, Vec<u16>),
-) -> Result<f64, String> {
+fn refused(held: &mut Held, storage: &mut [u8], (shape, cells): &mut (Shape, Vec<u16>)) -> Result<f64, String> {
     let (ms, refused) = timed(|| {
-        let mut go = || poplar::go_raw(black_box(held), storage, cells, *shape, 1);
+        let mut go = || poplar::go(black_box(held), storage, cells, *shape, 1);
         (0..REFUSALS).filter(|_| go() == Answer::BadHeld).count()
     });
     let all = refused == REFUSALS;
@@ -319,9 +315,9 @@ fn refusals() -> Result<Vec<f64>, String> {
     let mut storage = laid(1);
     let mut helds = Vec::new();
     for (shape, cells) in &mut packs {
-        let mut held = NOW.started(storage.clone(), cells, *shape)?.held;
-        held[1] = 16;
-        helds.push(held);
+        let mut bytes = NOW.started(storage.clone(), cells, *shape)?.held;
+        bytes[1] = 16;
+        helds.push(Held::from_bytes(bytes));
     }
     in_turn(ROUNDS, &[0, 1], |&i| refused(&mut helds[i], &mut storage, &mut packs[i]))
 }

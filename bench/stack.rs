@@ -1,7 +1,7 @@
 // The stack that a go uses.
 use crate::common::{thousands, Lent, WORDS};
 use crate::library::NOW;
-use poplar::Answer;
+use poplar::{Answer, Held};
 use std::arch::asm;
 use std::thread;
 
@@ -44,9 +44,10 @@ fn deepest(top: usize, pattern: u8) -> usize {
 fn stack_over(pattern: u8, lent: &mut Lent) -> Result<usize, String> {
     let Lent { storage, cells, shape } = lent;
     let mut begun = NOW.started(storage.clone(), cells, *shape)?;
+    let mut held = Held::from_bytes(begun.held);
     let top = stack_pointer();
     paint(top, pattern);
-    let answer = poplar::go_raw(&mut begun.held, &mut begun.storage, cells, *shape, WORDS as u16);
+    let answer = poplar::go(&mut held, &mut begun.storage, cells, *shape, WORDS as u16);
     let deep = deepest(top, pattern);
     if answer != Answer::Ended {
         return Err(format!("the stack's go answers {answer:?}"));
