@@ -35,11 +35,6 @@ fn rows(parts: &[&'static Part]) -> Result<Vec<Row>, String> {
     parts.iter().map(|part| part.measure()).collect()
 }
 
-fn readme() -> Result<(), String> {
-    table::markdown(&rows(&PARTS)?, &growth::measure()?);
-    Ok(())
-}
-
 // These parts, or all if none is named.
 fn measure(names: &[String]) -> Result<(), String> {
     let named = |name: &str| names.is_empty() || names.iter().any(|word| word == name);
@@ -54,18 +49,19 @@ fn measure(names: &[String]) -> Result<(), String> {
     parts.iter().try_for_each(|part| (part.besides)())
 }
 
-// What it prints for the script that lays several programs' figures side by side has no line in the script's usage.
+// --machine, --ratios, --bars and --before are for the script, which lays the figures of several programs side by side.
 fn run(words: &[String]) -> Result<(), String> {
     match words.first().map(String::as_str) {
-        Some("--compare") => compare(),
-        Some("--readme") => readme(),
-        Some("--machine") => Ok(println!("{}", table::machine())),
-        Some("--ratios") => Ok(table::ratios(&rows(&PARTS)?)),
-        Some("--bars") => Ok(table::bars(&PARTS)),
+        Some("--compare") => compare()?,
+        Some("--readme") => table::markdown(&rows(&PARTS)?, &growth::measure()?),
+        Some("--machine") => println!("{}", table::machine()),
+        Some("--ratios") => table::ratios(&rows(&PARTS)?),
+        Some("--bars") => table::bars(&PARTS),
         #[cfg(before)]
-        Some("--before") => before::print(&PARTS),
-        _ => measure(words),
+        Some("--before") => before::print(&PARTS)?,
+        _ => measure(words)?,
     }
+    Ok(())
 }
 
 fn main() -> ExitCode {

@@ -190,6 +190,7 @@ fn agreed(what: &str, laid: &[u8], pack: &mut [u16], allowance: u16) -> Result<W
 const DAMAGE: &[(&str, usize, usize, usize, u16)] = &[
     ("the first count", 0, 0, 1, 256 + 0xFF),
     ("a gap in a count's check", 7, 9, COUNT_CELLS, 0),
+    ("a gap where the key length was 0: only that it is no byte tells", 500, 3, 7, 0),
     ("a count that is longer", 1000, 4, 8, 256 + 0xFF),
     ("the first byte of data", 1015, 5, COUNT_CELLS + 1, 0),
     ("a marker in the data", 1500, 0, 100, MARKER),

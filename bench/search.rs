@@ -158,6 +158,8 @@ type Damage = (&'static str, usize, usize, u16, Option<[u8; 2]>);
 const DAMAGE: &[Damage] = &[
     ("the first count", 0, 1, 256 + 0xFF, Some(UNREADABLE_COUNT)),
     ("a gap in a count's check", 20, COUNT_CELLS, 0, Some(UNREADABLE_COUNT)),
+    ("a gap where the cylinder was 0: only that it is no byte tells", 12, 2, 0, Some(UNREADABLE_COUNT)),
+    ("a key's first byte, without what makes it one", 30, COUNT_CELLS + 1, b'0' as u16, Some(UNREADABLE)),
     ("the first byte of a key", 7, COUNT_CELLS + 1, 256 + 0xFF, Some(UNREADABLE)),
     ("the last key's check", RECORDS - 1, COUNT_CELLS + KEY + CHECK, 0, Some(UNREADABLE)),
     ("data", 7, COUNT_CELLS + KEY + CHECK + 40, 0, None),

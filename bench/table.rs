@@ -23,7 +23,7 @@ fn sliced(row: &Row) -> [String; 2] {
 
 pub fn print_rows(rows: &[Row]) {
     println!("milliseconds, medians of rounds in turn, results all the same; ratio: proved to the faster of shifts and table,");
-    println!("which go byte by byte; beside it plain Rust by slicing by 8, and the ratio to that");
+    println!("which go byte by byte, and to plain Rust by slicing by 8; at most: in the best of four placements, see --placed");
     print!("{:<8}{:>6}{:>9}{:>9}{:>9}", "", "rounds", "proved", "shifts", "table");
     println!("{:>7}{:>9}{:>9}{:>7}", "ratio", "at most", "slicing", "ratio");
     for row in rows {
