@@ -193,7 +193,7 @@ pub fn check_of(cells: &[u16]) -> u16
 }
 
 // Whether cells are all recorded bytes. There is no early end, so that the compiler can look at eight cells at once.
-fn all_bytes(cells: &[u16]) -> bool
+pub fn all_bytes(cells: &[u16]) -> bool
     ensures { λ r. ⌜ r ≡ allBytes (now (cells .entry)) ⌝ }
 {
     let mut all = true;

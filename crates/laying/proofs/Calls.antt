@@ -1,14 +1,13 @@
--- What the code's calls come to, in the model's words: bytes of a count, a part of the bytes sent, areas laid one behind the other, cells
--- looked at one by one. Assumes nothing.
-use Prim.Native.Nat.{ℕ, zero, suc, _+_, _-_, _*_, _/_, _<_, _≤_, min}
+-- What the code's calls come to, in the model's words: bytes of a count, a part of the bytes sent, areas laid one behind the other, an area's
+-- cells looked at. Assumes nothing.
+use Prim.Native.Nat.{ℕ, zero, suc, _+_, _-_, _*_, _<_, _≤_, min}
 use mathlib.Core.Path.{_≡_, refl, sym, ap, ap₂, _∙_}
-use mathlib.Core.Bool.{Bool, true, false}
+use mathlib.Core.Bool.{Bool, false}
 use mathlib.Core.List.{List, [], _∷_, _++_, append-assoc}
 use native.Mathlib.Omega.{arith}
 use native.Mathlib.Decide.{decLe}
-use native.Mathlib.Numerals.{add-one}
 use lib.ListN.{length, getD, take, drop, length-append, length-drop, drop-of-length-le}
-use lib.Seq.{take-all, drop-cons}
+use lib.Seq.{take-all}
 use lib.Dec.{lit<}
 use borrow.Author.Tests.{eq-eqb, ne-eqb}
 use Rattle.cells.specs.Choice.{pick, both}
@@ -148,23 +147,6 @@ marked-laid t p flag v n t₁ t₂ e f g =
     let cells : length (newRecord flag v) ≡ recordCells n = length-new flag v ∙ ap recordCells (sym (e .counts)) in
     g ∙ ap (λ (x : List ℕ). overlay x (p + 1) (newRecord flag v)) f
     ∙ overlay-append t p (marker ∷ []) (newRecord flag v) (omega (arith, e .ends, cells))
-
--- ---- cells looked at one by one
-
-pub bytes-next : (t : List ℕ) (i : ℕ) → i < length t → getD t i 0 / 256 ≡ 1 → allBytes (drop i t) ≡ allBytes (drop (i + 1) t)
-unfolding allBytes
-bytes-next t i h e =
-    ap allBytes (drop-cons t i 0 h) ∙ ap (λ (b : Bool). both b (allBytes (drop (suc i) t))) (eq-eqb (getD t i 0 / 256) 1 e)
-    ∙ ap (λ (k : ℕ). allBytes (drop k t)) (sym (add-one i))
-
-pub bytes-stop : (t : List ℕ) (i : ℕ) → i < length t → (getD t i 0 / 256 ≡ 1 → ⊥) → allBytes (drop i t) ≡ false
-unfolding allBytes
-bytes-stop t i h e =
-    ap allBytes (drop-cons t i 0 h) ∙ ap (λ (b : Bool). both b (allBytes (drop (suc i) t))) (ne-eqb (getD t i 0 / 256) 1 e)
-
-pub bytes-end : (t : List ℕ) (i : ℕ) → length t ≤ i → allBytes (drop i t) ≡ true
-unfolding allBytes
-bytes-end t i h = ap allBytes (drop-of-length-le t h)
 
 -- ---- an area off the track is not all bytes; one on it is where its lent cells are
 

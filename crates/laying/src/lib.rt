@@ -6,7 +6,7 @@ ghost use mathlib.Core.List.{[], _∷_};
 ghost use Prim.Native.Nat.{_+_, _<_, _≤_};
 ghost use lib.ListN.{length};
 ghost use Rattle.cells.specs.Bytes.{overlay, part};
-ghost use Rattle.cells.specs.Cells.{trackCells, marker, allBytes};
+ghost use Rattle.cells.specs.Cells.{trackCells, marker};
 ghost use Rattle.recording.specs.Recording.{areaWritten, Lies};
 ghost use Rattle.laying.specs.Laying.{newCounts, newKey, newRecord, recorded, Ends};
 
@@ -83,19 +83,6 @@ pub fn lay_marked(track: &mut [u16], p: u16, flag: u8, bytes: &[u8], n: Counts)
     lay_record(track, p + 1, flag, bytes, n);
 }
 
-fn all_bytes(cells: &[u16]) -> bool
-    ensures { λ r. ⌜ r ≡ allBytes (now (cells .entry)) ⌝ }
-{
-    let mut i = 0;
-    while i < cells.len() {
-        if cells[i] / 256 != 1 {
-            return false;
-        }
-        i += 1;
-    }
-    true
-}
-
 // Whether all cells of an area are recorded bytes.
 pub fn is_recorded(track: &[u16], a: Area) -> bool
     ensures { λ r. ⌜ r ≡ recorded (now (track .entry)) a ⌝ }
@@ -105,5 +92,5 @@ pub fn is_recorded(track: &[u16], a: Area) -> bool
     if track.len() < end {
         return false;
     }
-    all_bytes(&track[first..end])
+    house_check::all_bytes(&track[first..end])
 }

@@ -7,9 +7,6 @@ use Rattle.laying.proofs.Calls.{part-there}
 use borrow.Author.Needs.{needs}
 use Rattle.laying.proofs.lay_area.Statement.{statement}
 use Rattle.laying.proofs.lay_area.Tie as tie
-use Rattle.laying.proofs.lay_area.Reads as reads
-use Rattle.laying.proofs.lay_area.Lts as lts
-use Rattle.recording.proofs.write_area.Reads as write-area-reads
 
 lesser-requires : tie.Need-lesser-requires
 lesser-requires c κs = search needs
