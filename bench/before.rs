@@ -4,9 +4,6 @@ use crate::part::{Part, Side};
 use crate::table::at_most;
 use poplar::{Answer, Shape};
 
-// The most that the time may be of the one before, for a part that has no bar against plain Rust.
-const WANTED: f64 = 1.03;
-
 // Called as the one of this text is: rust/poplar.rs and library.rs say the same of theirs.
 static BEFORE: Library = Library { start, go, check };
 
@@ -83,12 +80,22 @@ fn check(cells: &[u16]) -> u16 {
     unsafe { before_poplar_check(cells.as_ptr(), cells.len()) }
 }
 
-// A line a part, of which the script makes a table: its name, milliseconds before and now, and the bar.
+static BOTH: [Side; 2] = [Side::Proved(&NOW), Side::Proved(&BEFORE)];
+
+// A line a part, of which the script makes a table: its name, the bar, and milliseconds now and before.
 pub fn print(parts: &[&Part]) -> Result<(), String> {
     for part in parts {
-        let times = (part.times)(&[Side::Proved(&BEFORE), Side::Proved(&NOW)])?;
-        let most = at_most(part.wanted.is_none().then_some(WANTED));
-        println!("{} {:.6} {:.6} {most}", part.name, times[0], times[1]);
+        let times = (part.times)(part.rounds, &BOTH)?;
+        println!("{} {} {:.6} {:.6}", part.name, at_most(part.wanted_before), times[0], times[1]);
     }
+    Ok(())
+}
+
+// One round, beside the one that warms up: both libraries leave what they should.
+pub fn compare(parts: &[&Part]) -> Result<(), String> {
+    for part in parts {
+        (part.times)(1, &BOTH).map_err(|error| format!("{}, by two libraries: {error}", part.name))?;
+    }
+    println!("before: {} parts, each by two libraries linked side by side: all the same", parts.len());
     Ok(())
 }

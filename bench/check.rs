@@ -13,16 +13,16 @@ const TRACKS: usize = 2030;
 const FROM: usize = 40;
 const CHECKED: usize = 3600;
 
-const ROUNDS: usize = 21;
-
 pub const PART: Part = Part {
     name: "check",
     what,
-    rounds: ROUNDS,
+    rounds: 21,
     loops: PLAIN.len(),
     wanted: Some(0.25),
+    wanted_before: None,
     compare,
     times,
+    chains: Vec::new,
     besides: || Ok(()),
 };
 
@@ -34,7 +34,7 @@ fn what() -> String {
 const TEXT: &[u8] = b"123456789";
 const TEXT_CHECK: u16 = 0x31C3;
 
-// LLVM may see what this loop computes and make a table of it by itself; the same holds of the proved loop.
+// LLVM may see what this loop computes and make a table of it by itself.
 #[inline(never)]
 fn by_bits(cells: &[u16]) -> u16 {
     cells.iter().fold(0, |r, &cell| next_by_bits(r, cell))
@@ -88,16 +88,23 @@ fn compare() -> Result<(), String> {
     // Any 16-bit number may stand in a cell, and only its low byte counts.
     let pairs = pack[..TRACK_CELLS].iter().zip(&pack[TRACK_CELLS..]);
     let any: Vec<u16> = pairs.map(|(&low, &high)| high << 8 | low & 0xff).collect();
-    for (kind, cells) in [("bytes", &pack[..TRACK_CELLS]), ("any cells", &any[..])] {
+    compared += lengths("bytes", &pack[..TRACK_CELLS])? + lengths("any cells", &any)?;
+    println!("check: {compared} results of each of the four compared: all the same; the text 123456789 gives {r:04X}");
+    Ok(())
+}
+
+// Parts of a track: short ones, some round a quarter of it, and almost all of it, where they fit. How many.
+fn lengths(kind: &str, track: &[u16]) -> Result<usize, String> {
+    let mut compared = 0;
+    for n in (0..=300).chain(1021..=1025).chain(4093..=4096) {
         for from in [0, 1, 3, 7, 40, 1021, 3795] {
-            for n in 0..=300 {
-                agreed(&format!("{n} {kind} from {from} on"), &cells[from..from + n])?;
+            if let Some(cells) = track.get(from..from + n) {
+                agreed(&format!("{n} {kind} from {from} on"), cells)?;
                 compared += 1;
             }
         }
     }
-    println!("check: {compared} results of each of the four compared: all the same; the text 123456789 gives {r:04X}");
-    Ok(())
+    Ok(compared)
 }
 
 // Every track by one of them: its results.
@@ -105,10 +112,10 @@ fn results(check: Check, pack: &[u16]) -> Vec<u16> {
     (0..TRACKS).map(|track| check(black_box(part(pack, track)))).collect()
 }
 
-fn times(sides: &[Side]) -> Result<Vec<f64>, String> {
+fn times(rounds: usize, sides: &[Side]) -> Result<Vec<f64>, String> {
     let pack = pack();
     let should = results(by_table, &pack);
-    in_turn(ROUNDS, sides, |&side| {
+    in_turn(rounds, sides, |&side| {
         let check = match side {
             Side::Proved(library) => library.check,
             Side::Plain(i) => PLAIN[i],

@@ -13,7 +13,6 @@ use crate::part::{Part, Side};
 use crate::plain::{BySlices, Way};
 use crate::remainder::{next_by_bits, next_by_table};
 use crate::single::{self, single, Ends, Moves, Single};
-use crate::stack;
 use poplar::{HELD_SIZE, TRACK_CELLS};
 use std::hint::black_box;
 
@@ -34,10 +33,18 @@ const NO_ROOM: [u8; 2] = [0x00, 0x40];
 // What no write leaves in a cell.
 const OLD: u16 = 0xE7E7;
 
-const ROUNDS: usize = 21;
-
-pub const PART: Part =
-    Part { name: "format", what, rounds: ROUNDS, loops: PLAIN.len(), wanted: Some(0.80), compare, times, besides };
+pub const PART: Part = Part {
+    name: "format",
+    what,
+    rounds: 21,
+    loops: PLAIN.len(),
+    wanted: Some(0.80),
+    wanted_before: None,
+    compare,
+    times,
+    chains: || vec![lent(LOAD), every_write()],
+    besides: || single::print(&singles()?),
+};
 
 fn what() -> String {
     let Load { tracks, records, data } = LOAD;
@@ -112,7 +119,7 @@ const LOAD: Load = FULL_LOAD;
 // How many records were written; fewer than all where one has no room.
 type Filled = usize;
 
-// A record's areas.
+// A record's areas, written; the cell behind them.
 #[inline(always)]
 fn record(way: impl Way, track: &mut [u16], from: usize, flag: u8, sent: &[u8]) -> usize {
     let (count, rest) = sent.split_at(8);
@@ -249,12 +256,12 @@ fn compare() -> Result<(), String> {
     Ok(())
 }
 
-fn times(sides: &[Side]) -> Result<Vec<f64>, String> {
+fn times(rounds: usize, sides: &[Side]) -> Result<Vec<f64>, String> {
     let laid = laid(LOAD);
     let full = LOAD.pack();
     let mut pack = vec![OLD; LOAD.cells()];
     let should = should(&laid, LOAD.all_records());
-    in_turn(ROUNDS, sides, |&side| {
+    in_turn(rounds, sides, |&side| {
         pack.fill(OLD);
         let ms = match side {
             Side::Proved(library) => {
@@ -353,9 +360,4 @@ fn every_write() -> Lent {
 
 pub fn lent(load: Load) -> Lent {
     Lent { storage: laid(load), cells: vec![0; load.cells()], shape: load.shape() }
-}
-
-fn besides() -> Result<(), String> {
-    stack::print("format", vec![lent(LOAD), every_write()])?;
-    single::print(&singles()?)
 }

@@ -28,7 +28,8 @@ fn compare() -> Result<(), String> {
     for part in PARTS {
         (part.compare)()?;
     }
-    growth::compare()
+    growth::compare()?;
+    stack::compare(&PARTS)
 }
 
 fn rows(parts: &[&'static Part]) -> Result<Vec<Row>, String> {
@@ -46,19 +47,20 @@ fn measure(names: &[String]) -> Result<(), String> {
     if named(GROWTH) {
         table::print_growths(&growth::measure()?);
     }
-    parts.iter().try_for_each(|part| (part.besides)())
+    parts.iter().try_for_each(|part| stack::print(part).and_then(|()| (part.besides)()))
 }
 
-// --machine, --ratios, --bars and --before are for the script, which lays the figures of several programs side by side.
+// --machine, --times, --before and --both are for the script, which lays the figures of several programs side by side.
 fn run(words: &[String]) -> Result<(), String> {
     match words.first().map(String::as_str) {
         Some("--compare") => compare()?,
         Some("--readme") => table::markdown(&rows(&PARTS)?, &growth::measure()?),
         Some("--machine") => println!("{}", table::machine()),
-        Some("--ratios") => table::ratios(&rows(&PARTS)?),
-        Some("--bars") => table::bars(&PARTS),
+        Some("--times") => table::times(&rows(&PARTS)?),
         #[cfg(before)]
         Some("--before") => before::print(&PARTS)?,
+        #[cfg(before)]
+        Some("--both") => before::compare(&PARTS)?,
         _ => measure(words)?,
     }
     Ok(())

@@ -5,13 +5,23 @@ use crate::common::{
 };
 use crate::library::NOW;
 use crate::part::{Part, Side};
-use crate::stack;
 use poplar::{Answer, Held, Shape, HELD_SIZE, TRACK_CELLS};
 use std::hint::black_box;
 
 const ROUNDS: usize = 201;
 
-pub const PART: Part = Part { name: "noop", what, rounds: ROUNDS, loops: 1, wanted: None, compare, times, besides };
+pub const PART: Part = Part {
+    name: "noop",
+    what,
+    rounds: ROUNDS,
+    loops: 1,
+    wanted: Some(2.0),
+    wanted_before: Some(1.03),
+    compare,
+    times,
+    chains,
+    besides,
+};
 
 fn what() -> String {
     format!("a chain of {} No-op words", thousands(WORDS))
@@ -199,7 +209,7 @@ fn agreed(what: &str, storage: &[u8], packs: &mut [(Shape, Vec<u16>); 2], allowa
 }
 
 // Chains after a first No-op: at each test of a word, one word that it stops and one beside it that it lets through.
-fn chains() -> Vec<(&'static str, Vec<[u8; 8]>)> {
+fn words_at_tests() -> Vec<(&'static str, Vec<[u8; 8]>)> {
     const BYTES: u32 = 1024;
     let tic = |to: u32| word(TIC, to, 0, 0);
     let at = |i: u32| FIRST as u32 + 8 * i;
@@ -237,7 +247,7 @@ fn compare() -> Result<(), String> {
         }
         compared += 1;
     }
-    for (what, words) in chains() {
+    for (what, words) in words_at_tests() {
         let first = word(NO_OP, 0, FLAG_CHAIN, 1);
         let storage = storage_with(1024, std::iter::once(first).chain(words));
         for allowance in [1, 2, 3, 4, 5, 200] {
@@ -278,19 +288,19 @@ fn on_packs(&side: &Side) -> Vec<(Side, usize)> {
 }
 
 // Of a box the slower pack counts.
-fn times(sides: &[Side]) -> Result<Vec<f64>, String> {
+fn times(rounds: usize, sides: &[Side]) -> Result<Vec<f64>, String> {
     let all: Vec<(Side, usize)> = sides.iter().flat_map(on_packs).collect();
-    let mut medians = medians(&all)?.into_iter();
+    let mut medians = medians(rounds, &all)?.into_iter();
     let mut slowest = |n: usize| medians.by_ref().take(n).fold(0.0, f64::max);
     Ok(sides.iter().map(|side| slowest(on_packs(side).len())).collect())
 }
 
-fn medians(all: &[(Side, usize)]) -> Result<Vec<f64>, String> {
+fn medians(rounds: usize, all: &[(Side, usize)]) -> Result<Vec<f64>, String> {
     let mut packs = packs();
     let as_laid = laid(WORDS);
     let should = agreed("No-ops", &as_laid, &mut packs, WORDS as u16)?;
     let mut storage = as_laid.clone();
-    in_turn(ROUNDS, all, |&(side, pack)| {
+    in_turn(rounds, all, |&(side, pack)| {
         let (ms, result) = one(side, &mut packs[pack], &mut storage)?;
         same("No-ops", "this", &should, &result)?;
         storage[STATUS].copy_from_slice(&as_laid[STATUS]);
@@ -335,9 +345,11 @@ fn controls() -> Vec<u8> {
     storage
 }
 
+fn chains() -> Vec<Lent> {
+    [laid(WORDS), controls()].map(|storage| Lent { storage, cells: vec![0; TRACK_CELLS], shape: ONE }).into()
+}
+
 fn besides() -> Result<(), String> {
-    let chains = [laid(WORDS), controls()];
-    stack::print("noop", chains.map(|storage| Lent { storage, cells: vec![0; TRACK_CELLS], shape: ONE }).into())?;
     let refusals = refusals()?;
     println!("noop: refusal of a bad key: {:.1} ns on 1 track, {:.1} ns on a full pack", refusals[0], refusals[1]);
     Ok(())

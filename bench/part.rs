@@ -1,4 +1,5 @@
-// A part of the benchmark, whose times it takes, and its row of the table.
+// A part of the benchmark, the sides that it times, and its row of the table.
+use crate::common::Lent;
 use crate::library::{Library, NOW};
 
 // Whose time is taken: that of a library, or of the plain loop with this number. Loops 0 and 1 go byte by byte, loop 2 is by slices.
@@ -10,7 +11,8 @@ pub enum Side {
 
 const BYTE_WISE: usize = 2;
 
-// It compares results; takes the median times, in milliseconds, of some sides; and prints what is measured besides.
+// It compares results; takes the median times, in milliseconds, of some sides in so many rounds; has chains whose stack is measured; and
+// prints what is measured besides.
 pub struct Part {
     pub name: &'static str,
     pub what: fn() -> String,
@@ -18,8 +20,12 @@ pub struct Part {
     pub loops: usize,
     // The most that the time may be of that of the faster loop that goes byte by byte.
     pub wanted: Option<f64>,
+    // The most that it may be of that of the box before.
+    #[cfg_attr(not(before), allow(dead_code))]
+    pub wanted_before: Option<f64>,
     pub compare: fn() -> Result<(), String>,
-    pub times: fn(&[Side]) -> Result<Vec<f64>, String>,
+    pub times: fn(usize, &[Side]) -> Result<Vec<f64>, String>,
+    pub chains: fn() -> Vec<Lent>,
     pub besides: fn() -> Result<(), String>,
 }
 
@@ -32,7 +38,7 @@ pub struct Row {
 impl Part {
     pub fn measure(&'static self) -> Result<Row, String> {
         let sides: Vec<Side> = std::iter::once(Side::Proved(&NOW)).chain((0..self.loops).map(Side::Plain)).collect();
-        let times = (self.times)(&sides)?;
+        let times = (self.times)(self.rounds, &sides)?;
         Ok(Row { part: self, proved: times[0], plain: times[1..].to_vec() })
     }
 }

@@ -13,7 +13,6 @@ use crate::part::{Part, Side};
 use crate::plain::{BySlices, Way};
 use crate::remainder::{next_by_bits, next_by_table};
 use crate::single::{self, single, Ends, Moves, Single};
-use crate::stack;
 use poplar::{HELD_SIZE, TRACK_CELLS};
 use std::hint::black_box;
 
@@ -21,10 +20,18 @@ const SEARCH_KEY: u8 = 0x29;
 const READ_COUNT: u8 = 0x12;
 const READ_ALL: u8 = 0x1E;
 
-const ROUNDS: usize = 21;
-
-pub const PART: Part =
-    Part { name: "reads", what, rounds: ROUNDS, loops: PLAIN.len(), wanted: Some(0.60), compare, times, besides };
+pub const PART: Part = Part {
+    name: "reads",
+    what,
+    rounds: 21,
+    loops: PLAIN.len(),
+    wanted: Some(0.60),
+    wanted_before: None,
+    compare,
+    times,
+    chains: || vec![lent(LOAD), every_command()],
+    besides: || single::print(&singles()?),
+};
 
 fn what() -> String {
     let Load { tracks, records, data } = LOAD;
@@ -186,16 +193,22 @@ fn agreed(what: &str, laid: &[u8], pack: &mut [u16], allowance: u16) -> Result<W
     Ok(walks[0])
 }
 
-// A record of a track, a cell of it behind its marker, and what is put there.
-const DAMAGE: &[(&str, usize, usize, usize, u16)] = &[
-    ("the first count", 0, 0, 1, 256 + 0xFF),
-    ("a gap in a count's check", 7, 9, COUNT_CELLS, 0),
-    ("a gap where the key length was 0: only that it is no byte tells", 500, 3, 7, 0),
-    ("a count that is longer", 1000, 4, 8, 256 + 0xFF),
-    ("the first byte of data", 1015, 5, COUNT_CELLS + 1, 0),
-    ("a marker in the data", 1500, 0, 100, MARKER),
-    ("the last check of all", LOAD.tracks - 1, LOAD.records - 1, COUNT_CELLS + LOAD.data + CHECK, 0x01FF),
+// A record of a track, a cell of it behind its marker, and what is put there for what it was.
+type Damage = (&'static str, usize, usize, usize, fn(u16) -> u16);
+const DAMAGE: &[Damage] = &[
+    ("the first count", 0, 0, 1, |_| 256 + 0xFF),
+    ("a gap in a count's check", 7, 9, COUNT_CELLS, |_| 0),
+    ("a gap where the key length was 0: only that it is no byte tells", 500, 3, 7, |_| 0),
+    ("a count that is longer", 1000, 4, 8, |_| 256 + 0xFF),
+    ("the first byte of data", 1015, 5, COUNT_CELLS + 1, |_| 0),
+    ("a byte of data, without what makes it one: only that tells", 1100, 2, COUNT_CELLS + 150, |was| was ^ 0x0100),
+    ("a byte of data, with 512 added: only that tells", 1200, 8, COUNT_CELLS + 33, |was| was + 0x0200),
+    ("the last byte of data, with the first bit: only that tells", 1300, 6, LAST_DATA, |was| was | 0x8000),
+    ("a byte of the data's check, with 256 added: only that tells", 1400, 1, LAST_DATA + CHECK, |was| was + 0x0100),
+    ("a marker in the data", 1500, 0, 100, |_| MARKER),
+    ("the last check of all", LOAD.tracks - 1, LOAD.records - 1, LAST_DATA + CHECK, |_| 0x01FF),
 ];
+const LAST_DATA: usize = COUNT_CELLS + LOAD.data;
 
 fn compare() -> Result<(), String> {
     let laid = laid(LOAD);
@@ -209,9 +222,10 @@ fn compare() -> Result<(), String> {
         }
         compared += 1;
     }
-    for &(what, track, record, behind, value) in DAMAGE {
+    for &(what, track, record, behind, damaged) in DAMAGE {
         let at = track * TRACK_CELLS + LOAD.marker(record) + behind;
-        let was = std::mem::replace(&mut pack[at], value);
+        let was = pack[at];
+        pack[at] = damaged(was);
         let walked = agreed(what, &laid, &mut pack, WORDS as u16)?;
         if walked.records != track * LOAD.records + record {
             return Err(format!("{what}: the plain loops say {walked:02X?}"));
@@ -230,14 +244,14 @@ fn compare() -> Result<(), String> {
     Ok(())
 }
 
-fn times(sides: &[Side]) -> Result<Vec<f64>, String> {
+fn times(rounds: usize, sides: &[Side]) -> Result<Vec<f64>, String> {
     let laid = laid(LOAD);
     let mut pack = LOAD.pack();
     let mut copy = vec![0; LOAD.moved() * LOAD.all_records()];
     let walked = by_table(&pack, &mut copy);
     let should = should(&laid, walked, &copy);
     let mut into = vec![0; copy.len()];
-    in_turn(ROUNDS, sides, |&side| match side {
+    in_turn(rounds, sides, |&side| match side {
         Side::Proved(library) => {
             let mut begun = library.started(laid.clone(), &mut pack, LOAD.shape())?;
             let (ms, answer) = begun.timed(&mut pack, LOAD.shape(), WORDS as u16);
@@ -343,9 +357,4 @@ fn every_command() -> Lent {
 
 pub fn lent(load: Load) -> Lent {
     Lent { storage: laid(load), cells: load.pack(), shape: load.shape() }
-}
-
-fn besides() -> Result<(), String> {
-    stack::print("reads", vec![lent(LOAD), every_command()])?;
-    single::print(&singles()?)
 }

@@ -52,11 +52,12 @@ const fn tables() -> [[u16; 256]; 8] {
 }
 
 // Eight cells a turn: the remainder so far is two bytes, which join the first two of the eight, and what each gives is added up.
+// Those two wait for the turn before, so they come last; what the other six give does not, and is added up meanwhile.
 #[inline(always)]
-fn next_eight(r: u16, cells: &[u16]) -> u16 {
+fn next_eight(r: u16, cells: &[u16; 8]) -> u16 {
     let by = |i: usize, joined: u16| TABLES[7 - i][usize::from((cells[i] ^ joined) & 0xff)];
-    let front = by(0, r >> 8) ^ by(1, r) ^ by(2, 0) ^ by(3, 0);
-    front ^ by(4, 0) ^ by(5, 0) ^ by(6, 0) ^ by(7, 0)
+    let behind = by(2, 0) ^ by(3, 0) ^ by(4, 0) ^ by(5, 0) ^ by(6, 0) ^ by(7, 0);
+    behind ^ (by(0, r >> 8) ^ by(1, r))
 }
 
 // The remainder over these cells, the last few of them one by one.
@@ -66,7 +67,7 @@ pub fn sliced(cells: &[u16]) -> u16 {
     let eights = cells.chunks_exact(8);
     let rest = eights.remainder();
     for eight in eights {
-        r = next_eight(r, eight);
+        r = next_eight(r, eight.try_into().expect("eight cells"));
     }
     for &cell in rest {
         r = next_by_table(r, cell);

@@ -9,7 +9,6 @@ use crate::pack::{ended, same, track, Bytes, Left, Record, FIRST_MARKER, SEEK_BY
 use crate::part::{Part, Side};
 use crate::plain::{BySlices, Way};
 use crate::remainder::{next_by_bits, next_by_table};
-use crate::stack;
 use poplar::TRACK_CELLS;
 use std::hint::black_box;
 
@@ -23,10 +22,18 @@ const RECORD_CELLS: usize = record_cells(KEY, DATA);
 
 const SECOND_INDEX: [u8; 2] = [0x00, 0x08];
 
-const ROUNDS: usize = 51;
-
-pub const PART: Part =
-    Part { name: "search", what, rounds: ROUNDS, loops: PLAIN.len(), wanted: None, compare, times, besides };
+pub const PART: Part = Part {
+    name: "search",
+    what,
+    rounds: 51,
+    loops: PLAIN.len(),
+    wanted: None,
+    wanted_before: Some(1.03),
+    compare,
+    times,
+    chains: || vec![Lent { storage: laid(&key_of(RECORDS)), cells: full_track(), shape: ONE }],
+    besides: || Ok(()),
+};
 
 fn what() -> String {
     let (searches, words) = (thousands(SEARCHES), thousands(SEARCHES * RUN + 1));
@@ -204,13 +211,13 @@ fn searched(plain: Plain, cells: &[u16], key: &[u8]) -> Option<Found> {
     same.then_some(first)
 }
 
-fn times(sides: &[Side]) -> Result<Vec<f64>, String> {
+fn times(rounds: usize, sides: &[Side]) -> Result<Vec<f64>, String> {
     let key = key_of(RECORDS);
     let mut cells = full_track();
     let laid = laid(&key);
     let found = by_table(&cells, &key);
     let should = should(&laid, found);
-    in_turn(ROUNDS, sides, |&side| match side {
+    in_turn(rounds, sides, |&side| match side {
         Side::Proved(library) => {
             let mut begun = library.started(laid.clone(), &mut cells, ONE)?;
             let (ms, answer) = begun.timed(&mut cells, ONE, WORDS as u16);
@@ -221,8 +228,4 @@ fn times(sides: &[Side]) -> Result<Vec<f64>, String> {
             (is == Some(found)).then_some(ms).ok_or("the plain loops differ".to_string())
         }
     })
-}
-
-fn besides() -> Result<(), String> {
-    stack::print("search", vec![Lent { storage: laid(&key_of(RECORDS)), cells: full_track(), shape: ONE }])
 }

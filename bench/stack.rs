@@ -1,11 +1,12 @@
 // The stack that a go uses.
 use crate::common::{thousands, Lent, WORDS};
 use crate::library::NOW;
+use crate::part::Part;
 use poplar::{Answer, Held};
 use std::arch::asm;
 use std::thread;
 
-// The most that it may be, in bytes.
+// It must be under so many bytes.
 const WANTED: usize = 4096;
 
 const PAINTED: usize = 64 * 1024;
@@ -55,6 +56,9 @@ fn stack_over(pattern: u8, lent: &mut Lent) -> Result<usize, String> {
     if deep == PAINTED {
         return Err(format!("a go uses {PAINTED} bytes of stack or more"));
     }
+    if deep <= MARGIN {
+        return Err("the stack of a go was not seen".to_string());
+    }
     Ok(deep)
 }
 
@@ -73,7 +77,22 @@ fn stack(chains: Vec<Lent>) -> Result<usize, String> {
     thread.join().map_err(|_| "the thread of the stack ended")?
 }
 
-pub fn print(part: &str, chains: Vec<Lent>) -> Result<(), String> {
-    println!("{part}: stack used by go: {} bytes, at most {}", stack(chains)?, thousands(WANTED));
+pub fn print(part: &Part) -> Result<(), String> {
+    let chains = (part.chains)();
+    if !chains.is_empty() {
+        let (most, wanted) = (thousands(stack(chains)?), thousands(WANTED));
+        println!("{}: stack used by go: {most} bytes; it must be under {wanted}", part.name);
+    }
+    Ok(())
+}
+
+// The most of all parts is under what is wanted.
+pub fn compare(parts: &[&Part]) -> Result<(), String> {
+    let chains: Vec<Lent> = parts.iter().flat_map(|part| (part.chains)()).collect();
+    let (count, most) = (chains.len(), stack(chains)?);
+    if most >= WANTED {
+        return Err(format!("a go uses {} bytes of stack, not under {}", thousands(most), thousands(WANTED)));
+    }
+    println!("stack: a go uses {} bytes at most over {count} chains, under {}", thousands(most), thousands(WANTED));
     Ok(())
 }

@@ -1,6 +1,6 @@
 // The two tables, on the screen and in Markdown, and the machine's name.
 use crate::growth::{self, Growth};
-use crate::part::{Part, Row};
+use crate::part::Row;
 use std::thread;
 
 pub fn machine() -> String {
@@ -66,13 +66,11 @@ pub fn markdown(rows: &[Row], growths: &[Growth]) {
     }
 }
 
-// The end of a line of a Markdown table: the ratios alone, and the bars.
-pub fn ratios(rows: &[Row]) {
-    let each: Vec<String> = rows.iter().map(|row| format!("{:.2}", row.ratio())).collect();
-    println!(" {} |", each.join(" | "));
-}
-
-pub fn bars(parts: &[&Part]) {
-    let each: Vec<String> = parts.iter().map(|part| at_most(part.wanted)).collect();
-    println!(" {} |", each.join(" | "));
+// A line a part, of which the script makes a table: its name, the bar, and milliseconds of the box, of the faster loop that goes byte by
+// byte, and of the one by slices, where there is one.
+pub fn times(rows: &[Row]) {
+    for row in rows {
+        let slicing = row.sliced().map_or("-".to_string(), |(ms, _)| format!("{ms:.6}"));
+        println!("{} {} {:.6} {:.6} {slicing}", row.part.name, at_most(row.part.wanted), row.proved, row.fastest());
+    }
 }

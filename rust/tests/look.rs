@@ -140,6 +140,27 @@ pub fn look_damage(tally: &mut Tally) {
             }
         }
     }
+    (12..=40).for_each(|bytes| damage_of_data(tally, bytes));
+}
+
+// Data of so many bytes, on both sides of where the check begins to fold: each cell changed and mended in turn.
+fn damage_of_data(tally: &mut Tally, bytes: usize) {
+    let data: Vec<u8> = (0..bytes).map(|i| (89 * i + 31 * bytes) as u8).collect();
+    let mut track = sound(&[R0, Record { number: 1, key: &[], data: &data }]);
+    let cells = M1 + 12..M1 + 12 + bytes + 2;
+    let seen = |track: &[u16]| look(track, M1 + 1, Part::Data);
+    tally.same(&format!("{bytes} bytes"), seen(&track), Look::Readable(at(&cells)));
+    for cell in cells.clone() {
+        let was = track[cell];
+        // One bit of the byte; a gap; a marker; and what keeps the byte and is none.
+        for value in [was ^ 1 << (cell % 8), 0, MARKER, was - 0x100, was + 0x100, was | 0x8000] {
+            let what = format!("{bytes} bytes with {value:04X} in cell {cell}");
+            track[cell] = value;
+            tally.same(&what, seen(&track), Look::Unreadable(at(&cells)));
+            track[cell] = was;
+            tally.same(&format!("{what}, mended"), seen(&track), Look::Readable(at(&cells)));
+        }
+    }
 }
 
 pub fn look_wrong_calls(tally: &mut Tally) {
