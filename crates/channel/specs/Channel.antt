@@ -1,0 +1,71 @@
+-- Document 01, "Channel words": the channel about a command. It alone fetches and places bytes, counts what moved and what is left, stores the status word
+-- and finds the next word. It sees no track.
+use Prim.Native.Nat.{ℕ, _-_, min}
+use mathlib.Core.Bool.{Bool, true, false, not}
+use mathlib.Core.List.{List}
+use lib.ListN.{take}
+use lib.Dec.{ltb}
+use Rattle.cells.specs.Choice.{pick, both, either}
+use Rattle.cells.specs.Bytes.{part, overlay}
+use Rattle.words.specs.declared.Word.{Word}
+use Rattle.words.specs.declared.Status.{Status}
+use Rattle.words.specs.Words.{chains, suppresses}
+use Rattle.words.specs.Status.{stored, statusFor}
+use Rattle.held.specs.declared.Channel.{Channel}
+use Rattle.held.specs.declared.Held.{Held}
+use Rattle.held.specs.Held.{rested}
+use Rattle.settle.specs.Settle.{unitStatus, endsWell, stride, onward}
+use Rattle.turn.specs.declared.Moving.{Moving}
+use Rattle.turn.specs.declared.Moving.the-variants as Moving
+use Rattle.turn.specs.declared.Told.{Told}
+use Rattle.turn.specs.Turn.{given, wants, Turn, toldOf, isCheck}
+
+-- ---- bytes: those at a word's address; those given, placed there, as many as its count says
+
+unfoldable pub fetched : List ℕ → Word → List ℕ
+fetched s w = part s (w .address) (w .count)
+
+unfoldable pub placed : List ℕ → Word → List ℕ → List ℕ
+placed s w v = overlay s (w .address) (take (w .count) v)
+
+-- ---- lengths
+
+unfoldable pub moved : Word → Told → ℕ
+moved w d = min (w .count) (wants (d .moving))
+
+-- not for No-op, Space Record or Unit Check
+unfoldable pub moves : Moving → Bool
+moves Moving.None = false
+moves (Moving.Gives n) = true
+moves (Moving.Takes n) = true
+
+unfoldable pub lengthCounts : Told → Bool
+lengthCounts d = both (moves (d .moving)) (not (isCheck (d .ending)))
+
+-- count left is not 0, or the device wanted more, and flag 20 is off
+unfoldable pub wrongLength : Word → Told → Bool
+wrongLength w d =
+    both (lengthCounts d) (both (not (suppresses w)) (either (ltb (moved w d) (w .count)) (ltb (w .count) (wants (d .moving)))))
+
+-- ---- the end of a command: the chain goes on, or is at its end
+
+unfoldable pub goesOn : Word → Told → Bool
+goesOn w d = both (chains w) (both (not (wrongLength w d)) (endsWell (d .ending)))
+
+unfoldable pub heldAfter : Channel → Word → Told → Held
+heldAfter c w d =
+    pick (goesOn w d)
+    (record { stands = d .stands; orders = d .orders; channel = onward c (stride (d .ending)) })
+    (rested (d .stands))
+
+-- count left is count less bytes moved; channel status 40 is incorrect length
+unfoldable pub statusAfter : Channel → Word → Told → Status
+statusAfter c w d =
+    statusFor (c .key) (c .next) (unitStatus (d .ending)) (pick (wrongLength w d) 0x40 0x00) (w .count - moved w d)
+
+-- the status word is stored last, at the chain's end
+unfoldable pub withStatus : Channel → Word → Told → List ℕ → List ℕ
+withStatus c w d s = pick (goesOn w d) s (stored s (statusAfter c w d))
+
+unfoldable pub storageAfter : Channel → Word → Turn → List ℕ → List ℕ
+storageAfter c w t s = withStatus c w (toldOf t) (placed s w (given (t .moves)))

@@ -1,0 +1,2 @@
+-- The model of the channel about a command.
+pub mod Channel

@@ -1,0 +1,1 @@
+// The channel about a command.

@@ -1,0 +1,442 @@
+-- Document 01, "Where the head stands" and "Commands": the one way that every command goes, by its row of the table: which record it works on, which
+-- areas it reads there, what it does with them. The rows of the Unit Check table come in its order.
+use Prim.Native.Nat.{ℕ, _+_, _-_}
+use mathlib.Core.Path.{_≡_}
+use mathlib.Core.Bool.{Bool, true, false}
+use mathlib.Core.List.{List, [], _∷_, _++_, map}
+use lib.ListN.{length, getD, take, drop, replicate}
+use lib.Dec.{ltb, leb, eqb}
+use Rattle.cells.specs.Choice.{pick, both, either}
+use Rattle.cells.specs.Bytes.{be16, number, part, padded}
+use Rattle.cells.specs.Cells.{trackCells, firstMarker, marker, gap, marks}
+use Rattle.rows.specs.declared.Row.{Row}
+use Rattle.rows.specs.declared.Row.the-variants as Row
+use Rattle.rows.specs.declared.Sense.{Sense}
+use Rattle.rows.specs.Rows.{sense}
+use Rattle.mask.specs.declared.Seeking.{Seeking}
+use Rattle.mask.specs.declared.Seeking.the-variants as Seeking
+use Rattle.mask.specs.Mask.{legal, barsSeek, barsWrite}
+use Rattle.house_check.specs.Area.{laid}
+use Rattle.areas.specs.declared.Area.{Area}
+use Rattle.areas.specs.declared.Counts.{Counts}
+use Rattle.areas.specs.Areas.{readable, areaBytes, rowOf, homeArea, homeBytes, zeroFirst, countArea, countsAt, readCount, keyArea, dataArea, recordCells, endBy, needed}
+use Rattle.areas.specs.Flags.{flagOfZero, flagAfter}
+use Rattle.hunt.specs.declared.Spot.{Spot}
+use Rattle.hunt.specs.declared.Spot.the-variants as Spot
+use Rattle.hunt.specs.declared.Next.{Next}
+use Rattle.hunt.specs.declared.Next.the-variants as Next
+use Rattle.hunt.specs.Hunt.{countFirst, nextRecord, nextId, spaceRecord}
+use Rattle.room.specs.Room.{fits}
+use Rattle.recording.specs.Recording.{countSent}
+use Rattle.compare.specs.declared.Compared.{Compared}
+use Rattle.compare.specs.Compare.{compared}
+use Rattle.pack.specs.declared.Cylinder.{Cylinder}
+use Rattle.pack.specs.declared.Head.{Head}
+use Rattle.pack.specs.declared.Shape.{Shape}
+use Rattle.pack.specs.declared.Sought.{Sought}
+use Rattle.pack.specs.declared.Sought.the-variants as Sought
+use Rattle.pack.specs.Shapes.{cylinder, head, seekTo, seekHead}
+use Rattle.commands.specs.declared.How.{How}
+use Rattle.held.specs.declared.Selection.{Selection}
+use Rattle.held.specs.declared.Selection.the-variants.{Nothing, On}
+use Rattle.held.specs.declared.Stands.{Stands}
+use Rattle.held.specs.declared.Orders.{Orders}
+use Rattle.work.specs.declared.Got.{Got}
+use Rattle.work.specs.declared.Got.the-variants.{Sees, Fails}
+use Rattle.work.specs.Work.{Seen, seen, seeing, noCounts, named, namedBy, idOf, sent}
+use Rattle.outcome.specs.declared.Ending.{Ending}
+use Rattle.outcome.specs.declared.Ending.the-variants.{Normal, Satisfied, Exception}
+use Rattle.outcome.specs.Outcome.{standing, sought, ordered, after}
+use Rattle.plan.specs.Plan.{homePlace, mostTally}
+use Rattle.licence.specs.Licence.{equalId, equalIdOrKey, homeDone, recordWritten}
+use Rattle.search.specs.Search.{flagBytes, found, equalOnly}
+use Rattle.laying.specs.Laying.{recorded, newCounts, newRecord}
+use Rattle.table.specs.declared.Licence.{Licence}
+use Rattle.table.specs.declared.Licence.the-variants as Licence
+use Rattle.table.specs.declared.Bar.{Bar}
+use Rattle.table.specs.declared.Bar.the-variants as Bar
+use Rattle.table.specs.declared.Aim.{Aim}
+use Rattle.table.specs.declared.Aim.the-variants as Aim
+use Rattle.table.specs.declared.Names.{Names}
+use Rattle.table.specs.declared.Names.the-variants as Names
+use Rattle.table.specs.declared.Control.{Control}
+use Rattle.table.specs.declared.Control.the-variants as Control
+use Rattle.table.specs.declared.Write.{Write}
+use Rattle.table.specs.declared.Write.the-variants as Write
+use Rattle.table.specs.declared.Act.{Act}
+use Rattle.table.specs.declared.Act.the-variants as Act
+use Rattle.table.specs.declared.Rule.{Rule}
+use Rattle.table.specs.Table.{ruleOf, looks, servesData, servesKey, isHome}
+use Rattle.turn.specs.Turn.{Tracks, Lies, Piece, Moves, None, Gives, Takes, Turn, turn, checks}
+use Rattle.command.specs.declared.Task.{Task}
+use Rattle.command.specs.declared.Plan.{Plan}
+use Rattle.command.specs.declared.Plan.the-variants.{Refuses, Works}
+use Rattle.command.specs.declared.Job.{Job}
+use Rattle.command.specs.declared.Ready.{Ready}
+use Rattle.command.specs.declared.Ready.the-variants as Ready
+
+-- ==== which record it works on. Of the tracks only the markers are seen
+
+abbrev pub Marks : Type 0
+Marks = Head → List Bool
+
+unfoldable pub marksOf : Tracks → Marks
+marksOf t h = marks (t h)
+
+-- which command before
+unfoldable pub licensed : Licence → Orders → Bool
+licensed Licence.Any o = true
+licensed Licence.Look o = looks (ruleOf (o .before) .act)
+licensed Licence.HomeAddress o = homeDone (o .before) (o .whole)
+licensed Licence.Record o = either (recordWritten (o .before)) (equalIdOrKey (o .before) (o .whole))
+licensed Licence.EqualIdOrKey o = equalIdOrKey (o .before) (o .whole)
+licensed Licence.EqualId o = equalId (o .before) (o .whole)
+
+abbrev pub task : Head → ℕ → Selection → ℕ → Task
+task h p x n = record { head = h; place = p; selection = x; tally = n }
+
+-- Search ID and Key count the index points that they pass in a row; any other command sets the tally to 0
+unfoldable pub tallies : Act → Bool
+tallies (Act.Control a) = false
+tallies (Act.Search h) = true
+tallies (Act.Read c) = false
+tallies (Act.Write w) = false
+
+-- a record that the head came to past so many index points
+unfoldable pub onRecord : Rule → Orders → Head → Spot → ℕ → Plan
+onRecord r o h spot n =
+    pick (both (tallies (r .act)) (ltb mostTally (o .tally + n))) (Refuses Row.SecondIndex)
+    (Works (task h (countFirst spot) (pick (r .selects) (On spot) Nothing) (pick (tallies (r .act)) (o .tally + n) 0)))
+
+unfoldable pub onNext : Rule → Orders → Head → Next → Plan
+onNext r o h (Next.Stands spot n) = onRecord r o h spot n
+onNext r o h Next.NoMarker = Refuses Row.NoMarker
+
+-- the record selected, or else
+unfoldable pub onSelected : Rule → Orders → Head → Selection → Plan → Plan
+onSelected r o h Nothing other = other
+onSelected r o h (On spot) other = onRecord r o h spot 0
+
+-- the next record on the track under the head
+unfoldable pub toNext : Rule → Marks → Stands → Orders → Plan
+toNext r m s o = onNext r o (s .head) (nextRecord (m (s .head)) (s .place))
+
+-- the record selected, where the command before serves this one, or else the next
+unfoldable pub toServed : Rule → Marks → Stands → Orders → Bool → Plan
+toServed r m s o serves = pick serves (onSelected r o (s .head) (o .selection) (toNext r m s o)) (toNext r m s o)
+
+unfoldable pub aimed : Rule → Marks → Stands → Orders → Aim → Plan
+aimed r m s o Aim.Stays = Works (task (s .head) (s .place) Nothing 0)
+aimed r m s o Aim.HomeAddress = Works (task (s .head) homePlace Nothing 0)
+aimed r m s o Aim.R0 = onRecord r o (s .head) Spot.Zero 0
+aimed r m s o Aim.NextId = onNext r o (s .head) (nextId (m (s .head)) (s .place))
+aimed r m s o Aim.Next = toNext r m s o
+aimed r m s o Aim.NextForData = toServed r m s o (servesData (ruleOf (o .before) .serves))
+aimed r m s o Aim.NextForKey = toServed r m s o (servesKey (ruleOf (o .before) .serves))
+aimed r m s o Aim.Selected = onSelected r o (s .head) (o .selection) (Refuses Row.WrongBefore)
+
+-- seek barred, write barred
+unfoldable pub unlessBarred : Bar → ℕ → Plan → Plan
+unlessBarred Bar.Nothing m x = x
+unlessBarred (Bar.Seeks k) m x = pick (barsSeek m k) (Refuses Row.SeekBarred) x
+unlessBarred (Bar.Writes k) m x = pick (barsWrite m k) (Refuses Row.WriteBarred) x
+
+-- the rows in order: wrong command before; barred; no marker, second index
+unfoldable pub plans : Rule → Marks → Stands → Orders → Plan
+plans r m s o = pick (licensed (r .licence) o) (unlessBarred (r .bar) (o .mask) (aimed r m s o (r .aim))) (Refuses Row.WrongBefore)
+
+-- ==== which areas it reads: of the home address, or of the record whose count area is at c
+
+unfoldable pub liesOn : Head → List Area → List Lies
+liesOn h l = map (λ (a : Area). record { head = h; area = a }) l
+
+unfoldable pub areasOf : Names → Tracks → Head → ℕ → List Lies
+areasOf Names.Nothing t h c = []
+areasOf Names.HomeAddress t h c = liesOn h (homeArea ∷ [])
+areasOf (Names.Count key body) t h c = liesOn h (countArea c ∷ namedBy c key body (readCount (t h) c))
+
+-- all are checked before any byte moves: the row of the first that is not readable, or else x
+unfoldable pub allRead : Tracks → List Lies → Got → Got
+allRead t [] x = x
+allRead t (a ∷ l) x = pick (readable (t (a .head)) (a .area)) (allRead t l x) (Fails (rowOf (a .area .part)))
+
+-- what the count area says
+unfoldable pub countsIn : Names → Tracks → Head → ℕ → Counts
+countsIn Names.Nothing t h c = noCounts
+countsIn Names.HomeAddress t h c = noCounts
+countsIn (Names.Count key body) t h c = countsAt (t h) c
+
+unfoldable pub gets : Names → Tracks → Head → ℕ → Got
+gets n t h c = allRead t (areasOf n t h c) (Sees (countsIn n t h c))
+
+-- the bytes of areas
+unfoldable pub saw : Tracks → List Lies → Seen
+saw t [] = seen [] [] []
+saw t (a ∷ l) = seeing (a .area .part) (areaBytes (t (a .head)) (a .area)) (saw t l)
+
+-- ==== what it does then
+
+-- the areas that an update goes over must be byte cells, whatever their check
+unfoldable pub writesOver : Write → ℕ → Counts → List Area
+writesOver Write.HomeAddress c n = []
+writesOver Write.R0 c n = []
+writesOver Write.CountKeyData c n = []
+writesOver (Write.Update key) c n = named c key true n
+
+unfoldable pub goesOver : Act → ℕ → Counts → List Area
+goesOver (Act.Control a) c n = []
+goesOver (Act.Search h) c n = []
+goesOver (Act.Read counted) c n = []
+goesOver (Act.Write w) c n = writesOver w c n
+
+unfoldable pub allRecorded : List ℕ → List Area → Bool
+allRecorded t [] = true
+allRecorded t (a ∷ l) = both (recorded t a) (allRecorded t l)
+
+-- what a command sees when it acts: the job, the bytes sent, the bytes of the areas that it read; of the track itself only the markers, and whether the
+-- cells that it goes over are byte cells
+pub record Sight : Type 0 where
+  pub job : Job
+  pub sent : List ℕ
+  pub reads : List Lies
+  pub seen : Seen
+  pub marks : List Bool
+  pub recorded : Bool
+
+unfoldable pub areasRead : Tracks → Job → List Lies
+areasRead t j = areasOf (j .rule .names) t (j .task .head) (j .task .place)
+
+unfoldable pub sight : Tracks → Job → List ℕ → Sight
+sight t j v = record {
+  job = j;
+  sent = v;
+  reads = areasRead t j;
+  seen = saw t (areasRead t j);
+  marks = marks (t (j .task .head));
+  recorded = allRecorded (t (j .task .head)) (goesOver (j .rule .act) (j .task .place) (j .counts));
+}
+
+-- all areas that the job names were readable, and its counts are those of the count area
+pub record Sighted (t : Tracks) (j : Job) : Type 0 where
+  pub sees : gets (j .rule .names) t (j .task .head) (j .task .place) ≡ Sees (j .counts)
+
+-- ---- how it ends
+
+unfoldable pub fails : Sight → Row → Turn
+fails x row = checks (x .job .stands) (x .job .orders) (x .reads) row
+
+-- commands but Sense and No-op clear sense first
+unfoldable pub senseAfter : Job → Sense
+senseAfter j = pick (j .rule .clears) (sense 0 0) (j .stands .sense)
+
+unfoldable pub standsAfter : Job → Task → Stands
+standsAfter j k = standing (j .stands .cylinder) (k .head) (k .place) (senseAfter j)
+
+-- this command is the one before the next; whether its search was equal over the whole field
+unfoldable pub ordersAfter : Job → Task → Bool → Orders
+ordersAfter j k whole = after (j .orders) (j .code) whole (k .tally) (k .selection)
+
+-- at the place of a task, by default its own
+unfoldable pub endsAt : Sight → Task → Ending → Moves → List Piece → Bool → Turn
+endsAt x k e m l whole = turn e m (x .reads) l (standsAfter (x .job) k) (ordersAfter (x .job) k whole)
+
+unfoldable pub ends : Sight → Ending → Moves → List Piece → Bool → Turn
+ends x e m l whole = endsAt x (x .job .task) e m l whole
+
+-- DL = 0, where the row says so: Unit Exception
+unfoldable pub endingOf : Job → Ending
+endingOf j = pick (both (j .rule .excepts) (eqb (j .counts .dl) 0)) Exception Normal
+
+-- ---- 03 No-op
+
+unfoldable pub rests : Sight → Turn
+rests x = ends x Normal None [] false
+
+-- ---- 04 Sense: 6 bytes, bytes 2 to 5 zero
+
+unfoldable pub senseBytes : Stands → List ℕ
+senseBytes s = s .sense .byte0 ∷ s .sense .byte1 ∷ 0 ∷ 0 ∷ 0 ∷ 0 ∷ []
+
+unfoldable pub senses : Sight → Turn
+senses x = ends x Normal (Gives (senseBytes (x .job .stands))) [] false
+
+-- ---- 07 Seek, 0B Seek Cylinder, 1B Seek Head: 6 bytes BB CC HH
+
+abbrev pub seekBytes : ℕ
+seekBytes = 6
+
+unfoldable pub soughtBy : Shape → Seeking → Cylinder → List ℕ → Sought
+soughtBy g Seeking.Seek c v = seekTo g (be16 v 0) (cylinder (be16 v 2)) (head (be16 v 4))
+soughtBy g Seeking.SeekCylinder c v = seekTo g (be16 v 0) (cylinder (be16 v 2)) (head (be16 v 4))
+soughtBy g Seeking.SeekHead c v = seekHead g c (head (be16 v 4))
+
+-- bad or short
+unfoldable pub addressed : Shape → Seeking → Cylinder → List ℕ → Sought
+addressed g k c v = pick (ltb (length v) seekBytes) (Sought.Fails Row.BadSeek) (soughtBy g k c v)
+
+unfoldable pub arrives : Sight → Sought → Turn
+arrives x (Sought.Stands c h) = turn Normal (Takes seekBytes) (x .reads) [] (sought c h) (ordersAfter (x .job) (x .job .task) false)
+arrives x (Sought.Fails row) = fails x row
+
+unfoldable pub seeks : Shape → Seeking → Sight → Turn
+seeks g k x = arrives x (addressed g k (x .job .stands .cylinder) (x .sent))
+
+-- ---- 1F Set File Mask: a bad byte, then a second mask
+
+abbrev pub maskBytes : ℕ
+maskBytes = 1
+
+unfoldable pub masked : Sight → ℕ → Turn
+masked x byte =
+    turn Normal (Takes maskBytes) (x .reads) [] (standsAfter (x .job) (x .job .task)) (ordered byte true (x .job .code) false 0 Nothing)
+
+unfoldable pub masks : Sight → ℕ → Turn
+masks x byte = pick (legal byte) (pick (x .job .orders .«mask_set») (fails x Row.SecondMask) (masked x byte)) (fails x Row.BadMask)
+
+-- ---- 0F Space Record: after home address work 7, else past the next marker without reading
+
+unfoldable pub spacedPlace : Sight → ℕ
+spacedPlace x = spaceRecord (x .marks) (x .job .stands .place) (isHome (ruleOf (x .job .orders .before) .aim))
+
+unfoldable pub spaces : Sight → Turn
+spaces x = endsAt x (task (x .job .task .head) (spacedPlace x) Nothing 0) Normal None [] false
+
+-- ---- searches: the first m bytes, m the smaller of the bytes sent and the field, as unsigned numbers
+
+-- the field: of the home address its last 4 bytes, the key if it is named, or else the ID, CCHHR
+unfoldable pub fieldOf : Names → Counts → Seen → List ℕ
+fieldOf Names.Nothing n x = []
+fieldOf Names.HomeAddress n x = drop flagBytes (x .home)
+fieldOf (Names.Count key body) n x = pick key (x .key) (idOf (n .cc) (n .hh) (n .r))
+
+unfoldable pub comparison : List ℕ → List ℕ → Compared
+comparison f v = compared (number (take (length v) f)) (number (take (length f) v))
+
+unfoldable pub satisfied : How → List ℕ → List ℕ → Bool
+satisfied h f v = found h (comparison f v) (length f)
+
+-- equal over the whole field, by an equal-only search: what licenses a write
+unfoldable pub wholly : How → List ℕ → List ℕ → Bool
+wholly h f v = both (equalOnly h) (both (leb (length f) (length v)) (satisfied h f v))
+
+-- it moves the m bytes and wants its whole field
+unfoldable pub comparesWith : How → Sight → List ℕ → Turn
+comparesWith h x f = ends x (pick (satisfied h f (x .sent)) Satisfied Normal) (Takes (length f)) [] (wholly h f (x .sent))
+
+unfoldable pub compares : How → Sight → Turn
+compares h x = comparesWith h x (fieldOf (x .job .rule .names) (x .job .counts) (x .seen))
+
+-- ---- reads: the home address's 5 bytes; of a record the count's 8, key and data where they are named and there
+
+unfoldable pub offered : Names → Bool → Counts → Seen → List ℕ
+offered Names.Nothing counted n x = []
+offered Names.HomeAddress counted n x = x .home
+offered (Names.Count key body) counted n x = pick counted (sent n) [] ++ (pick key (x .key) [] ++ pick body (x .body) [])
+
+unfoldable pub gives : Bool → Sight → Turn
+gives counted x =
+    ends x (endingOf (x .job)) (Gives (offered (x .job .rule .names) counted (x .job .counts) (x .seen))) [] false
+
+-- ---- writes: missing bytes are zeros, surplus is not fetched. 19, 15 and 1D make all later cells 0
+
+unfoldable pub piece : Sight → ℕ → List ℕ → Piece
+piece x first v = record { head = x .job .task .head; first = first; cells = v }
+
+unfoldable pub toEnd : ℕ → List ℕ → List ℕ
+toEnd first v = v ++ replicate (trackCells - (first + length v)) gap
+
+-- 19
+unfoldable pub laysHome : Sight → Turn
+laysHome x = ends x Normal (Takes homeBytes) (piece x 0 (toEnd 0 (laid (padded homeBytes (x .sent)))) ∷ []) false
+
+-- count, key and data of a new record; until its count is sent, 8 bytes
+unfoldable pub recordTakes : List ℕ → Counts → ℕ
+recordTakes v n = pick (ltb (length v) countSent) countSent (countSent + n .kl + n .dl)
+
+-- a new record, from a cell on, if it has room for so many cells there; where the task is then
+unfoldable pub laysNew : Sight → Task → ℕ → Counts → ℕ → List ℕ → Turn
+laysNew x k first n need v =
+    pick (fits first need) (endsAt x k Normal (Takes (recordTakes (x .sent) n)) (piece x first (toEnd first v) ∷ []) false) (fails x Row.NoRoom)
+
+-- 15: behind the home address
+unfoldable pub laysR0 : Sight → ℕ → Turn
+laysR0 x flag =
+    laysNew x (x .job .task) zeroFirst (newCounts flag (x .sent)) (recordCells (newCounts flag (x .sent))) (newRecord flag (x .sent))
+
+-- 1D: behind the record that it follows, its marker first; it is selected, and the place after it
+unfoldable pub laysRecord : Sight → ℕ → ℕ → Turn
+laysRecord x at flag =
+    laysNew x (task (x .job .task .head) (at + 1) (On (Spot.Marker at)) 0) at (newCounts flag (x .sent)) (needed (newCounts flag (x .sent)))
+    (marker ∷ newRecord flag (x .sent))
+
+-- 05 and 0D: an area of n bytes, if there are any, of those sent from one on
+unfoldable pub over : Sight → Area → ℕ → ℕ → List Piece
+over x a from n = pick (ltb 0 n) (piece x (a .first) (laid (padded n (part (x .sent) from n))) ∷ []) []
+
+-- bytes of the key that are sent
+unfoldable pub keySent : Bool → Counts → ℕ
+keySent key n = pick key (n .kl) 0
+
+unfoldable pub updates : Bool → Sight → ℕ → Counts → Turn
+updates key x c n =
+    pick (x .recorded)
+    (ends x (endingOf (x .job)) (Takes (keySent key n + n .dl))
+    (over x (keyArea c n) 0 (keySent key n) ++ over x (dataArea c n) (keySent key n) (n .dl)) false)
+    (fails x Row.Unreadable)
+
+-- ---- all of them
+
+unfoldable pub does : Shape → Control → Sight → Turn
+does g Control.Unknown x = fails x Row.UnknownCode
+does g Control.NoOp x = rests x
+does g Control.Sense x = senses x
+does g (Control.Seek k) x = seeks g k x
+does g Control.SetMask x = masks x (getD (x .sent) 0 0)
+does g Control.SpaceRecord x = spaces x
+
+unfoldable pub lays : Write → Sight → Turn
+lays Write.HomeAddress x = laysHome x
+lays Write.R0 x = laysR0 x (flagOfZero (getD (x .seen .home) 0 0))
+lays Write.CountKeyData x = laysRecord x (endBy (x .job .task .place) (x .job .counts)) (flagAfter (x .job .counts .flag))
+lays (Write.Update key) x = updates key x (x .job .task .place) (x .job .counts)
+
+unfoldable pub acts : Shape → Act → Sight → Turn
+acts g (Act.Control a) x = does g a x
+acts g (Act.Search h) x = compares h x
+acts g (Act.Read counted) x = gives counted x
+acts g (Act.Write w) x = lays w x
+
+-- ==== the command
+
+abbrev pub jobOf : ℕ → Rule → Stands → Orders → Task → Counts → Job
+jobOf code r s o k n = record { code = code; rule = r; stands = s; orders = o; task = k; counts = n }
+
+-- the row that ends it before it acts: one of its plan's, then unreadable; or the job
+unfoldable pub hasRead : ℕ → Rule → Stands → Orders → Task → Got → Ready
+hasRead code r s o k (Sees n) = Ready.Acts (jobOf code r s o k n)
+hasRead code r s o k (Fails row) = Ready.Refuses row
+
+unfoldable pub readyBy : Tracks → ℕ → Rule → Stands → Orders → Plan → Ready
+readyBy t code r s o (Refuses row) = Ready.Refuses row
+readyBy t code r s o (Works k) = hasRead code r s o k (gets (r .names) t (k .head) (k .place))
+
+-- the areas read by then
+unfoldable pub planReads : Tracks → Rule → Plan → List Lies
+planReads t r (Refuses row) = []
+planReads t r (Works k) = areasOf (r .names) t (k .head) (k .place)
+
+unfoldable pub turnBy : Shape → Tracks → Stands → Orders → List ℕ → List Lies → Ready → Turn
+turnBy g t s o v reads (Ready.Refuses row) = checks s o reads row
+turnBy g t s o v reads (Ready.Acts j) = acts g (j .rule .act) (sight t j v)
+
+-- by a row of the table
+unfoldable pub obeys : Shape → Tracks → ℕ → Rule → Stands → Orders → List ℕ → Turn
+obeys g t code r s o v =
+    turnBy g t s o v (planReads t r (plans r (marksOf t) s o)) (readyBy t code r s o (plans r (marksOf t) s o))
+
+unfoldable pub command : Shape → Tracks → Stands → Orders → ℕ → List ℕ → Turn
+command g t s o code v = obeys g t code (ruleOf code) s o v
+
+-- what it comes to before it acts
+unfoldable pub readies : Tracks → Stands → Orders → ℕ → Ready
+readies t s o code = readyBy t code (ruleOf code) s o (plans (ruleOf code) (marksOf t) s o)

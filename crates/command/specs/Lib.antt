@@ -1,0 +1,2 @@
+-- The one way that every command goes.
+pub mod Command

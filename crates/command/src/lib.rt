@@ -1,0 +1,39 @@
+// What a command finds out before it acts.
+use areas::Counts;
+use held::Orders;
+use held::Selection;
+use held::Stands;
+use pack::Head;
+use rows::Row;
+use table::Rule;
+
+// Where a command works: the head; the place after its work, which for a record is the first cell of its count area; what it leaves selected; the index
+// tally.
+pub struct Task {
+    pub head: Head,
+    pub place: u16,
+    pub selection: Selection,
+    pub tally: u8,
+}
+
+// A row of the Unit Check table, or a task.
+pub enum Plan {
+    Refuses(Row),
+    Works(Task),
+}
+
+// A command that has read all that it names: its code and row, where the head stood, what it found, where it works, what the count area says there.
+pub struct Job {
+    pub code: u8,
+    pub rule: Rule,
+    pub stands: Stands,
+    pub orders: Orders,
+    pub task: Task,
+    pub counts: Counts,
+}
+
+// A row of the Unit Check table, or a command that can act.
+pub enum Ready {
+    Refuses(Row),
+    Acts(Job),
+}

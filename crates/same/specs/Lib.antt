@@ -1,0 +1,2 @@
+-- One command word by turns.
+pub mod Step

@@ -1,0 +1,1 @@
+// No code: the model of turns is the model of the chain.

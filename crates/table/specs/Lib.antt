@@ -1,0 +1,2 @@
+-- The commands, a row each.
+pub mod Table

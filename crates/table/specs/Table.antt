@@ -1,0 +1,182 @@
+-- Document 01, "Commands" and "Where the head stands": one row a command, in the order of its list. A TIC is no command (`words:Words.isTic`).
+-- The columns are the fields of `Rule`, in this order: which command must come before; what of the mask bars it; which record it takes; which areas of
+-- it are read; what is done then; whether the record is left selected, and whom it then serves; Unit Exception at DL = 0; whether sense is cleared first.
+use Prim.Native.Nat.{ℕ}
+use mathlib.Core.Bool.{Bool, true, false}
+use mathlib.Core.List.{List, [], _∷_}
+use lib.Dec.{eqb}
+use Rattle.cells.specs.Choice.{pick}
+use Rattle.mask.specs.declared.Seeking.{Seeking}
+use Rattle.mask.specs.declared.Seeking.the-variants.{Seek, SeekCylinder, SeekHead}
+use Rattle.mask.specs.declared.Writing.{Writing}
+use Rattle.mask.specs.declared.Writing.the-variants as Writing
+use Rattle.commands.specs.declared.How.{How}
+use Rattle.commands.specs.declared.How.the-variants.{IfEqual, IfHigh, IfEqualOrHigh}
+use Rattle.table.specs.declared.Licence.{Licence}
+use Rattle.table.specs.declared.Licence.the-variants as Licence
+use Rattle.table.specs.declared.Bar.{Bar}
+use Rattle.table.specs.declared.Bar.the-variants as Bar
+use Rattle.table.specs.declared.Aim.{Aim}
+use Rattle.table.specs.declared.Aim.the-variants as Aim
+use Rattle.table.specs.declared.Names.{Names}
+use Rattle.table.specs.declared.Names.the-variants as Names
+use Rattle.table.specs.declared.Serves.{Serves}
+use Rattle.table.specs.declared.Serves.the-variants as Serves
+use Rattle.table.specs.declared.Control.{Control}
+use Rattle.table.specs.declared.Control.the-variants as Control
+use Rattle.table.specs.declared.Write.{Write}
+use Rattle.table.specs.declared.Write.the-variants as Write
+use Rattle.table.specs.declared.Act.{Act}
+use Rattle.table.specs.declared.Act.the-variants as Act
+use Rattle.table.specs.declared.Rule.{Rule}
+
+-- ---- values of the columns
+
+-- of a record: its count, and what else is named
+abbrev pub count : Names
+count = Names.Count false false
+
+abbrev pub countKey : Names
+countKey = Names.Count true false
+
+abbrev pub countData : Names
+countData = Names.Count false true
+
+abbrev pub countKeyData : Names
+countKeyData = Names.Count true true
+
+-- the record is left selected, or is not; DL = 0 is Unit Exception, or may be; a count's 8 bytes move, or do not
+abbrev pub selects : Bool
+selects = true
+
+abbrev pub leaves : Bool
+leaves = false
+
+abbrev pub excepts : Bool
+excepts = true
+
+abbrev pub accepts : Bool
+accepts = false
+
+abbrev pub counted : Bool
+counted = true
+
+abbrev pub bare : Bool
+bare = false
+
+-- ---- rows of a family: what all of them have in common is said once
+
+-- Sense and No-op leave sense as it is
+abbrev pub quiet : Control → Rule
+quiet a = record { licence = Licence.Any; bar = Bar.Nothing; aim = Aim.Stays; names = Names.Nothing; act = Act.Control a; selects = leaves; serves = Serves.Nobody; excepts = accepts; clears = false }
+
+abbrev pub control : Licence → Bar → Control → Rule
+control l b a = record { licence = l; bar = b; aim = Aim.Stays; names = Names.Nothing; act = Act.Control a; selects = leaves; serves = Serves.Nobody; excepts = accepts; clears = true }
+
+abbrev pub seek : Seeking → Rule
+seek k = control Licence.Any (Bar.Seeks k) (Control.Seek k)
+
+abbrev pub search : Aim → Names → Bool → Serves → How → Rule
+search a n s v h = record { licence = Licence.Any; bar = Bar.Nothing; aim = a; names = n; act = Act.Search h; selects = s; serves = v; excepts = accepts; clears = true }
+
+abbrev pub read : Aim → Names → Bool → Bool → Serves → Bool → Rule
+read a n c s v x = record { licence = Licence.Any; bar = Bar.Nothing; aim = a; names = n; act = Act.Read c; selects = s; serves = v; excepts = x; clears = true }
+
+abbrev pub write : Licence → Writing → Aim → Names → Write → Bool → Bool → Rule
+write l b a n w s x = record { licence = l; bar = Bar.Writes b; aim = a; names = n; act = Act.Write w; selects = s; serves = Serves.Nobody; excepts = x; clears = true }
+
+-- ---- the table: a code, and its row
+
+pub record Entry : Type 0 where
+  pub code : ℕ
+  pub rule : Rule
+
+abbrev pub row : ℕ → Rule → Entry
+row c r = record { code = c; rule = r }
+
+-- No-op, Sense, Seek, Seek Cylinder, Seek Head, Set File Mask, Space Record
+unfoldable pub controls : List Entry
+controls =
+    row 0x03 (quiet Control.NoOp)
+    ∷ row 0x04 (quiet Control.Sense)
+    ∷ row 0x07 (seek Seek)
+    ∷ row 0x0B (seek SeekCylinder)
+    ∷ row 0x1B (seek SeekHead)
+    ∷ row 0x1F (control Licence.Any Bar.Nothing Control.SetMask)
+    ∷ row 0x0F (control Licence.Look Bar.Nothing Control.SpaceRecord)
+    ∷ []
+
+-- Search HA; Search ID equal, high, equal or high; Search Key so
+unfoldable pub searches : List Entry
+searches =
+    row 0x39 (search Aim.HomeAddress Names.HomeAddress leaves Serves.Nobody IfEqual)
+    ∷ row 0x31 (search Aim.NextId count selects Serves.DataAndKey IfEqual)
+    ∷ row 0x51 (search Aim.NextId count selects Serves.DataAndKey IfHigh)
+    ∷ row 0x71 (search Aim.NextId count selects Serves.DataAndKey IfEqualOrHigh)
+    ∷ row 0x29 (search Aim.NextForKey countKey selects Serves.Data IfEqual)
+    ∷ row 0x49 (search Aim.NextForKey countKey selects Serves.Data IfHigh)
+    ∷ row 0x69 (search Aim.NextForKey countKey selects Serves.Data IfEqualOrHigh)
+    ∷ []
+
+-- Read HA, R0, Count, Data, Key and Data, Count Key Data
+unfoldable pub reads : List Entry
+reads =
+    row 0x1A (read Aim.HomeAddress Names.HomeAddress bare leaves Serves.Nobody accepts)
+    ∷ row 0x16 (read Aim.R0 countKeyData counted leaves Serves.Nobody excepts)
+    ∷ row 0x12 (read Aim.Next count counted selects Serves.DataAndKey accepts)
+    ∷ row 0x06 (read Aim.NextForData countData bare leaves Serves.Nobody excepts)
+    ∷ row 0x0E (read Aim.NextForKey countKeyData bare leaves Serves.Nobody excepts)
+    ∷ row 0x1E (read Aim.Next countKeyData counted leaves Serves.Nobody excepts)
+    ∷ []
+
+-- Write HA, R0, Count Key Data, Data, Key and Data
+unfoldable pub writes : List Entry
+writes =
+    row 0x19 (write Licence.Any Writing.HomeOrZero Aim.HomeAddress Names.Nothing Write.HomeAddress leaves accepts)
+    ∷ row 0x15 (write Licence.HomeAddress Writing.HomeOrZero Aim.R0 Names.HomeAddress Write.R0 selects accepts)
+    ∷ row 0x1D (write Licence.Record Writing.Record Aim.Selected count Write.CountKeyData selects accepts)
+    ∷ row 0x05 (write Licence.EqualIdOrKey Writing.Update Aim.Selected count (Write.Update false) leaves excepts)
+    ∷ row 0x0D (write Licence.EqualId Writing.Update Aim.Selected count (Write.Update true) leaves excepts)
+    ∷ []
+
+-- any other code
+abbrev pub unknown : Rule
+unknown = control Licence.Any Bar.Nothing Control.Unknown
+
+-- the row of a code, or else this one
+unfoldable pub find : ℕ → List Entry → Rule → Rule
+find c [] other = other
+find c (e ∷ l) other = pick (eqb c (e .code)) (e .rule) (find c l other)
+
+unfoldable pub ruleOf : ℕ → Rule
+ruleOf c = find c controls (find c searches (find c reads (find c writes unknown)))
+
+-- ---- which commands belong together
+
+-- a search or a read: what Space Record must follow
+unfoldable pub looks : Act → Bool
+looks (Act.Control a) = false
+looks (Act.Search h) = true
+looks (Act.Read c) = true
+looks (Act.Write w) = false
+
+unfoldable pub servesData : Serves → Bool
+servesData Serves.Nobody = false
+servesData Serves.Data = true
+servesData Serves.DataAndKey = true
+
+unfoldable pub servesKey : Serves → Bool
+servesKey Serves.Nobody = false
+servesKey Serves.Data = false
+servesKey Serves.DataAndKey = true
+
+-- home address work
+unfoldable pub isHome : Aim → Bool
+isHome Aim.Stays = false
+isHome Aim.HomeAddress = true
+isHome Aim.R0 = false
+isHome Aim.NextId = false
+isHome Aim.Next = false
+isHome Aim.NextForData = false
+isHome Aim.NextForKey = false
+isHome Aim.Selected = false

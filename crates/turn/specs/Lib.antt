@@ -1,0 +1,2 @@
+-- What a command does, as one value.
+pub mod Turn

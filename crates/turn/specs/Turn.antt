@@ -1,0 +1,116 @@
+-- What one command does, as one value. A command is told its code and the bytes sent; it knows no storage, no address, no command word and no channel.
+-- Document 01, "Commands", and the Unit Check table of "Channel words".
+use Prim.Native.Nat.{ℕ}
+use mathlib.Core.Bool.{Bool, true, false}
+use mathlib.Core.List.{List, [], _∷_}
+use lib.ListN.{length, take, drop}
+use Rattle.cells.specs.Bytes.{overlay}
+use Rattle.rows.specs.declared.Row.{Row}
+use Rattle.rows.specs.declared.Row.the-variants.{UnknownCode, BadMask, SecondMask, WrongBefore, SeekBarred, WriteBarred, BadSeek, Unreadable, UnreadableCount, NoRoom, NoMarker, SecondIndex}
+use Rattle.rows.specs.Rows.{senseOf}
+use Rattle.areas.specs.declared.Area.{Area}
+use Rattle.pack.specs.declared.Head.{Head}
+use Rattle.held.specs.declared.Stands.{Stands}
+use Rattle.held.specs.declared.Orders.{Orders}
+use Rattle.outcome.specs.declared.Ending.{Ending}
+use Rattle.outcome.specs.declared.Ending.the-variants.{Normal, Satisfied, Exception, Check}
+use Rattle.outcome.specs.Outcome.{sensing}
+use Rattle.turn.specs.declared.Moving.{Moving}
+use Rattle.turn.specs.declared.Moving.the-variants as Moving
+use Rattle.turn.specs.declared.Told.{Told}
+
+-- all that a command sees of the pack: the tracks of the cylinder, by their heads
+abbrev pub Tracks : Type 0
+Tracks = Head → List ℕ
+
+-- the same track under every head: what a function that is lent one track knows of a cylinder
+abbrev pub alone : List ℕ → Tracks
+alone t h = t
+
+-- an area of a head's track
+pub record Lies : Type 0 where
+  pub head : Head
+  pub area : Area
+
+-- cells for a head's track, from a cell on
+pub record Piece : Type 0 where
+  pub head : Head
+  pub first : ℕ
+  pub cells : List ℕ
+
+-- ---- the bytes that move: none, and length does not count; those that it gives; so many of those sent
+
+pub data Moves : Type 0 where
+  None : Moves
+  Gives : List ℕ → Moves
+  Takes : ℕ → Moves
+
+-- the bytes given
+unfoldable pub given : Moves → List ℕ
+given None = []
+given (Gives v) = v
+given (Takes n) = []
+
+-- the numbers alone
+unfoldable pub movingOf : Moves → Moving
+movingOf None = Moving.None
+movingOf (Gives v) = Moving.Gives (length v)
+movingOf (Takes n) = Moving.Takes n
+
+-- how many bytes the device wants, in either direction
+unfoldable pub wants : Moving → ℕ
+wants Moving.None = 0
+wants (Moving.Gives n) = n
+wants (Moving.Takes n) = n
+
+-- lent bytes after those from one on were put there, as many as find room
+unfoldable pub filled : List ℕ → ℕ → List ℕ → List ℕ
+filled l from v = overlay l 0 (take (length l) (drop from v))
+
+-- ---- the turn: how it ends, which bytes move, which areas it reads, in order, which cells it lays, in order, what is held then
+
+pub record Turn : Type 0 where
+  pub ending : Ending
+  pub moves : Moves
+  pub reads : List Lies
+  pub lays : List Piece
+  pub stands : Stands
+  pub orders : Orders
+
+abbrev pub turn : Ending → Moves → List Lies → List Piece → Stands → Orders → Turn
+turn e m r l s o = record { ending = e; moves = m; reads = r; lays = l; stands = s; orders = o }
+
+-- what the channel is told of it
+unfoldable pub toldOf : Turn → Told
+toldOf t = record { ending = t .ending; moving = movingOf (t .moves); stands = t .stands; orders = t .orders }
+
+-- a track with pieces laid on it, one after another
+unfoldable pub laid : List Piece → List ℕ → List ℕ
+laid [] t = t
+laid (p ∷ l) t = laid l (overlay t (p .first) (p .cells))
+
+-- ---- Unit Check: no cell is laid, the place stands, and sense says the row
+
+-- the bytes that it takes of those sent before the row shows: document 01's "bytes moved" is the lesser of this and the count
+unfoldable pub rowTakes : Row → ℕ
+rowTakes UnknownCode = 0
+rowTakes BadMask = 1
+rowTakes SecondMask = 0
+rowTakes WrongBefore = 0
+rowTakes SeekBarred = 0
+rowTakes WriteBarred = 0
+rowTakes BadSeek = 6
+rowTakes Unreadable = 0
+rowTakes UnreadableCount = 0
+rowTakes NoRoom = 8
+rowTakes NoMarker = 0
+rowTakes SecondIndex = 0
+
+unfoldable pub isCheck : Ending → Bool
+isCheck Normal = false
+isCheck Satisfied = false
+isCheck Exception = false
+isCheck (Check row) = true
+
+unfoldable pub checks : Stands → Orders → List Lies → Row → Turn
+checks s o r row = turn (Check row) (Takes (rowTakes row)) r [] (sensing s (senseOf row)) o

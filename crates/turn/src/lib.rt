@@ -1,0 +1,19 @@
+// What a command does, without the bytes and cells of it.
+use held::Orders;
+use held::Stands;
+use outcome::Ending;
+
+// The bytes that move: none, and length does not count; so many that it gives; so many that it takes of those sent.
+pub enum Moving {
+    None,
+    Gives(u32),
+    Takes(u32),
+}
+
+// How a command ends, how many bytes move, and what is held then.
+pub struct Told {
+    pub ending: Ending,
+    pub moving: Moving,
+    pub stands: Stands,
+    pub orders: Orders,
+}
