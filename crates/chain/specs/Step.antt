@@ -1,24 +1,26 @@
--- One command word, and an allowance of them. Assumes nothing.
-use Prim.Native.Nat.{ℕ, zero, suc}
+-- One command word, and an allowance of them: the channel takes the word, the command has its turn, the pack takes the cells that it lays.
+use Prim.Native.Nat.{ℕ, zero, suc, _+_}
 use mathlib.Core.Bool.{Bool, true, false}
-use mathlib.Core.List.{List, []}
+use mathlib.Core.List.{List, [], _∷_}
 use Rattle.cells.specs.Choice.{pick}
+use Rattle.cells.specs.Bytes.{overlay}
 use Rattle.words.specs.declared.Word.{Word}
 use Rattle.words.specs.declared.Cause.{Cause}
 use Rattle.words.specs.declared.Tested.{Tested}
 use Rattle.words.specs.declared.Tested.the-variants.{Obey, Jump, Bad}
 use Rattle.words.specs.Words.{along, tested}
 use Rattle.words.specs.Status.{stored, programCheck}
+use Rattle.pack.specs.declared.Cylinder.{Cylinder}
 use Rattle.pack.specs.declared.Shape.{Shape}
-use Rattle.pack.specs.Tracks.{startOf, trackAt, withTrack}
+use Rattle.pack.specs.Tracks.{startOf, trackAt}
 use Rattle.held.specs.declared.Held.{Held}
 use Rattle.held.specs.Held.{rested}
-use Rattle.areas.specs.declared.Area.{Area}
-use Rattle.commands.specs.declared.Command.{Command}
-use Rattle.commands.specs.declared.Command.the-variants.{Controls, Searches, Reads, Writes, Unknown}
-use Rattle.commands.specs.Commands.{commandOf}
-use Rattle.chain.specs.Act.{Acted, acts, commandReads}
-use Rattle.settle.specs.Settle.{heldAfter, storageAfter}
+use Rattle.table.specs.declared.Act.{Act}
+use Rattle.table.specs.declared.Act.the-variants as Act
+use Rattle.table.specs.Table.{ruleOf}
+use Rattle.turn.specs.Turn.{Tracks, Lies, Piece, Turn, toldOf}
+use Rattle.command.specs.Command.{command}
+use Rattle.channel.specs.Channel.{fetched, heldAfter, storageAfter}
 
 -- all that a call may change
 pub record World : Type 0 where
@@ -29,9 +31,27 @@ pub record World : Type 0 where
 abbrev pub world : Held → List ℕ → List ℕ → World
 world h s c = record { held = h; storage = s; cells = c }
 
--- the first cell of the track under the head
+-- the first cell of the track under the head, and that track
 unfoldable pub under : Shape → Held → ℕ
 under g h = startOf g (h .stands .cylinder) (h .stands .head)
+
+unfoldable pub selected : Shape → World → List ℕ
+selected g w = trackAt (w .cells) (under g (w .held))
+
+-- the next word, tested
+unfoldable pub next : World → Tested
+next w = tested (w .storage) (w .held .channel .next) (w .held .channel .«after_tic»)
+
+-- ---- the pack: the tracks of a cylinder, and cells laid on them
+
+unfoldable pub tracksOf : Shape → List ℕ → Cylinder → Tracks
+tracksOf g cells c h = trackAt cells (startOf g c h)
+
+unfoldable pub laidOn : Shape → Cylinder → List Piece → List ℕ → List ℕ
+laidOn g c [] cells = cells
+laidOn g c (p ∷ l) cells = laidOn g c l (overlay cells (startOf g c (p .head) + p .first) (p .cells))
+
+-- ---- one word
 
 -- a program check ends the chain; sense and the place stand
 unfoldable pub stops : World → Cause → World
@@ -46,15 +66,19 @@ jumped h a = record {
   channel = record { going = h .channel .going; key = h .channel .key; next = along a 0; «after_tic» = true };
 }
 
--- a command: it acts, and the channel ends it
-unfoldable pub settled : Shape → World → Word → Acted → World
-settled g w d a =
-    world (heldAfter (w .held .channel) d (a .done)) (storageAfter (w .held .channel) d (a .done) (a .storage))
-    (withTrack (w .cells) (under g (w .held)) (a .track))
+-- a command has its turn
+unfoldable pub turnOf : Shape → World → Word → Turn
+turnOf g w d =
+    command g (tracksOf g (w .cells) (w .held .stands .cylinder)) (w .held .stands) (w .held .orders) (d .code) (fetched (w .storage) d)
+
+-- the channel ends it, and its cells are laid
+unfoldable pub settled : Shape → World → Word → Turn → World
+settled g w d t =
+    world (heldAfter (w .held .channel) d (toldOf t)) (storageAfter (w .held .channel) d t (w .storage))
+    (laidOn g (w .held .stands .cylinder) (t .lays) (w .cells))
 
 unfoldable pub obeyed : Shape → World → Word → World
-obeyed g w d =
-    settled g w d (acts g (w .held .stands) (w .held .orders) d (w .storage) (trackAt (w .cells) (under g (w .held))))
+obeyed g w d = settled g w d (turnOf g w d)
 
 unfoldable pub takes : Shape → World → Tested → World
 takes g w (Obey d) = obeyed g w d
@@ -62,34 +86,30 @@ takes g w (Jump a) = world (jumped (w .held) a) (w .storage) (w .cells)
 takes g w (Bad cause) = stops w cause
 
 unfoldable pub step : Shape → World → World
-step g w = takes g w (tested (w .storage) (w .held .channel .next) (w .held .channel .«after_tic»))
+step g w = takes g w (next w)
 
 -- an allowance of n words
 unfoldable pub run : Shape → ℕ → World → World
 run g zero w = w
 run g (suc n) w = pick (w .held .channel .going) (run g n (step g w)) w
 
--- ---- the areas that the next command word reads
+-- ---- of the next word: the areas that it reads, and whether it is a write, 19, 15, 1D, 05 or 0D
 
-unfoldable pub testedReads : Shape → World → Tested → List Area
-testedReads g w (Obey d) =
-    commandReads (commandOf (d .code)) (w .held .stands) (w .held .orders) (trackAt (w .cells) (under g (w .held)))
+unfoldable pub testedReads : Shape → World → Tested → List Lies
+testedReads g w (Obey d) = turnOf g w d .reads
 testedReads g w (Jump a) = []
 testedReads g w (Bad cause) = []
 
-unfoldable pub wordReads : Shape → World → List Area
-wordReads g w = testedReads g w (tested (w .storage) (w .held .channel .next) (w .held .channel .«after_tic»))
+unfoldable pub wordReads : Shape → World → List Lies
+wordReads g w = testedReads g w (next w)
 
--- ---- whether a word is 19, 15, 1D, 05 or 0D
-
-unfoldable pub isWrite : Command → Bool
-isWrite (Controls c) = false
-isWrite (Searches c) = false
-isWrite (Reads c) = false
-isWrite (Writes c) = true
-isWrite Unknown = false
+unfoldable pub isWrite : Act → Bool
+isWrite (Act.Control a) = false
+isWrite (Act.Search h) = false
+isWrite (Act.Read c) = false
+isWrite (Act.Write w) = true
 
 unfoldable pub testedWrites : Tested → Bool
-testedWrites (Obey d) = isWrite (commandOf (d .code))
+testedWrites (Obey d) = isWrite (ruleOf (d .code) .act)
 testedWrites (Jump a) = false
 testedWrites (Bad cause) = false

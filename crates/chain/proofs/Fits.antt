@@ -1,0 +1,89 @@
+-- What refusal 4 asks, taken apart and put together again: each of its tests by itself.
+use Prim.Native.Nat.{ℕ, _<_, _≤_}
+use mathlib.Core.Path.{_≡_, refl, ap, _∙_}
+use mathlib.Core.Bool.{Bool, true, not}
+use mathlib.Core.List.{List}
+use lib.Dec.{ltb, leb}
+use borrow.Author.Tests.{ltb-true, leb-true, lt-ltb, le-leb}
+use Rattle.cells.specs.Choice.{both}
+use Rattle.cells.specs.Cells.{trackCells}
+use Rattle.cells.proofs.Tests.{first-of, second-of, both-of}
+use Rattle.mask.specs.Mask.{legal}
+use Rattle.words.specs.Words.{addresses}
+use Rattle.hunt.specs.Hunt.{spotFits}
+use Rattle.pack.specs.declared.Shape.{Shape}
+use Rattle.pack.specs.Shapes.{cylinderOn, headOn}
+use Rattle.pack.specs.Tracks as Tracks
+use Rattle.plan.specs.Plan.{mostTally, SelectedOn}
+use Rattle.command.proofs.Plans.{Leaves}
+use Rattle.table.specs.Table.{ruleOf}
+use Rattle.held.specs.declared.Selection.{Selection}
+use Rattle.held.specs.declared.Selection.the-variants.{Nothing, On}
+use Rattle.held.specs.declared.Stands.{Stands}
+use Rattle.held.specs.declared.Orders.{Orders}
+use Rattle.held.specs.declared.Channel.{Channel}
+use Rattle.outcome.specs.Outcome.{after, ordered}
+use Rattle.chain.specs.Legal.{keys, standsFit, channelFits, selectionFits, ordersFit}
+
+-- ---- where the head stands
+
+module _ (g : Shape) (s : Stands) where
+  pub stands-on : standsFit g s ≡ true → Tracks.On g (s .cylinder) (s .head)
+  unfolding standsFit
+  stands-on e =
+      let f = second-of (cylinderOn g (s .cylinder)) _ e in
+      record { cylinder = ltb-true _ _ (first-of (cylinderOn g (s .cylinder)) _ e); head = ltb-true _ _ (first-of (headOn g (s .head)) _ f) }
+
+  pub place-in : standsFit g s ≡ true → s .place ≤ trackCells
+  unfolding standsFit
+  place-in e = leb-true _ _ (second-of (headOn g (s .head)) _ (second-of (cylinderOn g (s .cylinder)) _ e))
+
+  pub stands-fit : Tracks.On g (s .cylinder) (s .head) → s .place ≤ trackCells → standsFit g s ≡ true
+  unfolding standsFit
+  stands-fit on p = both-of (lt-ltb _ _ (on .cylinder)) (both-of (lt-ltb _ _ (on .head)) (le-leb _ _ p))
+
+-- ---- the channel's part
+
+module _ (c : Channel) where
+  pub key-in : channelFits c ≡ true → c .key < keys
+  unfolding channelFits
+  key-in e = ltb-true _ _ (first-of (ltb (c .key) keys) _ e)
+
+  pub next-in : channelFits c ≡ true → c .next < addresses
+  unfolding channelFits
+  next-in e = ltb-true _ _ (second-of (ltb (c .key) keys) _ e)
+
+  pub channel-fits : c .key < keys → c .next < addresses → channelFits c ≡ true
+  unfolding channelFits
+  channel-fits k n = both-of (lt-ltb _ _ k) (lt-ltb _ _ n)
+
+-- ---- orders
+
+selection-on : (m : List Bool) (o : Orders) (x : Selection) → selectionFits m o x ≡ true → SelectedOn m x
+unfolding selectionFits SelectedOn
+selection-on m o Nothing e = tt
+selection-on m o (On spot) e = e
+
+module _ (m : List Bool) (o : Orders) where
+  pub mask-legal : ordersFit m o ≡ true → legal (o .mask) ≡ true
+  unfolding ordersFit
+  mask-legal e = first-of (legal (o .mask)) _ e
+
+  pub tally-in : ordersFit m o ≡ true → o .tally ≤ mostTally
+  unfolding ordersFit
+  tally-in e = leb-true _ _ (first-of (leb (o .tally) mostTally) _ (second-of (legal (o .mask)) _ e))
+
+  pub selected-on : ordersFit m o ≡ true → SelectedOn m (o .selection)
+  unfolding ordersFit
+  selected-on e = selection-on m o (o .selection) (second-of (leb (o .tally) mostTally) _ (second-of (legal (o .mask)) _ e))
+
+-- what a command leaves: this code before the next, and nothing selected or a record of the track, by its row
+leaves-fit : (m : List Bool) (o : Orders) (x : Selection) → Leaves m (ruleOf (o .before) .selects) x → selectionFits m o x ≡ true
+unfolding selectionFits
+leaves-fit m o Nothing e = ap not e
+leaves-fit m o (On spot) e = e
+
+pub ordered-fit : (m : List Bool) (mask : ℕ) (set : Bool) (code : ℕ) (whole : Bool) (tally : ℕ) (x : Selection)
+    → legal mask ≡ true → tally ≤ mostTally → Leaves m (ruleOf code .selects) x → ordersFit m (ordered mask set code whole tally x) ≡ true
+unfolding ordersFit ordered
+ordered-fit m mask set code whole tally x l h k = both-of l (both-of (le-leb _ _ h) (leaves-fit m (ordered mask set code whole tally x) x k))

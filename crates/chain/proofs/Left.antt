@@ -1,0 +1,349 @@
+-- What a command leaves: a place on the pack; orders that fit the track that is left; pieces that lie on the track under the head.
+use Prim.Native.Nat.{ℕ, suc, _+_, _<_, _≤_}
+use mathlib.Core.Path.{_≡_, refl, sym, ap, _∙_, subst}
+use mathlib.Core.Bool.{Bool, true, false, not, false≢true}
+use mathlib.Core.List.{List, [], _∷_, _++_}
+use native.Mathlib.Nat.{add-zero}
+use native.Mathlib.Omega.{arith}
+use lib.ListN.{length, getD}
+use lib.Dec.{ltb, eqb}
+use Rattle.cells.specs.Choice.{pick, both, either}
+use Rattle.cells.specs.Bytes.{padded}
+use Rattle.cells.specs.Cells.{trackCells, marker, marks}
+use Rattle.cells.proofs.Marks.{getD-marks, mark-here}
+use Rattle.cells.proofs.Tests.{pick-all, first-of, second-of}
+use Rattle.rows.specs.declared.Row.{Row}
+use Rattle.rows.specs.declared.Row.the-variants as Row
+use Rattle.mask.specs.declared.Seeking.{Seeking}
+use Rattle.mask.specs.declared.Seeking.the-variants as Seeking
+use Rattle.mask.specs.Mask.{legal}
+use Rattle.house_check.specs.Area as Area
+use Rattle.areas.specs.declared.Counts.{Counts}
+use Rattle.areas.specs.Areas.{homeBytes, zeroFirst, keyArea, dataArea, recordCells, endBy, needed}
+use Rattle.areas.specs.Flags.{flagOfZero, flagAfter}
+use Rattle.hunt.specs.declared.Spot.{Spot}
+use Rattle.hunt.specs.declared.Spot.the-variants as Spot
+use Rattle.hunt.specs.Hunt.{Whole, spotFits, spaceRecord}
+use Rattle.pack.specs.declared.Head.{Head}
+use Rattle.hunt.proofs.Inside.{space-in}
+use Rattle.room.specs.Room.{fits}
+use Rattle.room.proofs.Laws.{fits-ends}
+use Rattle.pack.specs.declared.Cylinder.{Cylinder}
+use Rattle.pack.specs.declared.Shape.{Shape}
+use Rattle.pack.specs.declared.Sought.{Sought}
+use Rattle.pack.specs.declared.Sought.the-variants as Sought
+use Rattle.pack.proofs.Seeks.{SoughtOn, seek-to-on, seek-head-on}
+use Rattle.held.specs.declared.Selection.{Selection}
+use Rattle.held.specs.declared.Selection.the-variants.{Nothing, On}
+use Rattle.held.specs.declared.Stands.{Stands}
+use Rattle.held.specs.declared.Orders.{Orders}
+use Rattle.outcome.specs.declared.Ending.{Ending}
+use Rattle.outcome.specs.declared.Ending.the-variants.{Normal, Exception}
+use Rattle.outcome.specs.Outcome.{standing, sensing, sought, ordered, after}
+use Rattle.laying.specs.Laying.{newCounts, newRecord, formatted}
+use Rattle.laying.proofs.Laws.{length-area, length-new, formatted-inside}
+use Rattle.plan.specs.Plan.{mostTally}
+use Rattle.work.specs.Work.{named}
+use Rattle.work.specs.declared.Got.{Got}
+use Rattle.work.specs.declared.Got.the-variants.{Sees, Fails}
+use Rattle.table.specs.declared.Aim.{Aim}
+use Rattle.table.specs.declared.Aim.the-variants as Aim
+use Rattle.table.specs.declared.Control.{Control}
+use Rattle.table.specs.declared.Control.the-variants as Control
+use Rattle.table.specs.declared.Write.{Write}
+use Rattle.table.specs.declared.Write.the-variants as Write
+use Rattle.table.specs.declared.Act.{Act}
+use Rattle.table.specs.declared.Act.the-variants as Act
+use Rattle.table.specs.declared.Rule.{Rule}
+use Rattle.table.specs.Table.{ruleOf, isHome, find, controls, searches, reads, writes}
+use Rattle.table.proofs.Laws.{every, each, of-every}
+use Rattle.turn.specs.Turn.{Tracks, Lies, Piece, Moves, Takes, Turn, laid, checks}
+use Rattle.command.specs.declared.Task.{Task}
+use Rattle.command.specs.declared.Job.{Job}
+use Rattle.command.specs.declared.Plan.{Plan}
+use Rattle.command.specs.declared.Plan.the-variants.{Refuses, Works}
+use Rattle.command.specs.Command.{Marks, marksOf, plans, gets, Sight, areasRead, sight, allRecorded, goesOver, writesOver, fails, standsAfter, ordersAfter, endsAt, ends, endingOf, rests, senses, soughtBy, addressed, arrives, seeks, masked, masks, spacedPlace, spaces, comparesWith, compares, gives, piece, toEnd, laysHome, recordTakes, laysNew, laysR0, laysRecord, over, keySent, updates, does, lays, acts, jobOf, hasRead, readyBy, planReads, turnBy, obeys, command, task}
+use Rattle.command.proofs.Plans.{selectsOne, not-true, isR0, Leaves, NoMarker, TaskOn, PlanOn, PlanFree, plan-on, none-free, r0-free}
+use Rattle.command.proofs.Pieces.{PiecesOn, length-laid, length-to-end, format-is, update-on}
+use Rattle.chain.specs.Legal.{standsFit, ordersFit}
+use Rattle.chain.proofs.Fits.{stands-on, place-in, stands-fit, mask-legal, tally-in, selected-on, ordered-fit}
+
+-- ---- what the table's rows have in common
+
+-- a control command selects nothing; a write but 1D leaves no marker selected
+unfoldable steadyWrite : Write → Rule → Bool
+steadyWrite Write.HomeAddress r = not (r .selects)
+steadyWrite Write.R0 r = isR0 (r .aim)
+steadyWrite Write.CountKeyData r = true
+steadyWrite (Write.Update key) r = not (r .selects)
+
+unfoldable steady : Act → Rule → Bool
+steady (Act.Control a) r = not (r .selects)
+steady (Act.Search h) r = true
+steady (Act.Read c) r = true
+steady (Act.Write w) r = steadyWrite w r
+
+unfoldable tame : Rule → Bool
+tame r = both (selectsOne (r .aim) (r .selects)) (steady (r .act) r)
+
+tame-rule : (c : ℕ) → tame (ruleOf c) ≡ true
+unfolding tame selectsOne steady steadyWrite isR0 every each controls searches reads writes
+tame-rule c = of-every tame refl c
+
+-- what is selected where a command acts, by what it does
+abbrev WriteFree : Write → Selection → Type 0
+WriteFree Write.HomeAddress y = NoMarker y
+WriteFree Write.R0 y = NoMarker y
+WriteFree Write.CountKeyData y = Unit {0}
+WriteFree (Write.Update key) y = NoMarker y
+
+abbrev ActFree : Act → Selection → Type 0
+ActFree (Act.Control a) y = NoMarker y
+ActFree (Act.Search h) y = Unit {0}
+ActFree (Act.Read c) y = Unit {0}
+ActFree (Act.Write w) y = WriteFree w y
+
+abbrev OnPlan : (Selection → Type 0) → Plan → Type 0
+OnPlan P (Refuses row) = Unit {0}
+OnPlan P (Works k) = P (k .selection)
+
+-- if no marker is, or whatever is
+free-plan : (p : Plan) → PlanFree p → OnPlan NoMarker p
+free-plan (Refuses row) h = tt
+free-plan (Works k) h = h
+
+any-plan : (p : Plan) → OnPlan (λ y. Unit {0}) p
+any-plan (Refuses row) = tt
+any-plan (Works k) = tt
+
+write-free : (r : Rule) (m : Marks) (s : Stands) (o : Orders) (w : Write) → steadyWrite w r ≡ true → OnPlan (WriteFree w) (plans r m s o)
+unfolding steadyWrite
+write-free r m s o Write.HomeAddress e = free-plan (plans r m s o) (none-free r m s o e)
+write-free r m s o Write.R0 e = free-plan (plans r m s o) (r0-free r m s o e)
+write-free r m s o Write.CountKeyData e = any-plan (plans r m s o)
+write-free r m s o (Write.Update key) e = free-plan (plans r m s o) (none-free r m s o e)
+
+act-free : (r : Rule) (m : Marks) (s : Stands) (o : Orders) (a : Act) → steady a r ≡ true → OnPlan (ActFree a) (plans r m s o)
+unfolding steady
+act-free r m s o (Act.Control a) e = free-plan (plans r m s o) (none-free r m s o e)
+act-free r m s o (Act.Search h) e = any-plan (plans r m s o)
+act-free r m s o (Act.Read c) e = any-plan (plans r m s o)
+act-free r m s o (Act.Write w) e = write-free r m s o w e
+
+-- ---- what is left
+
+-- orders that fit any track, or the track that is left, where the head has not moved
+pub data Chosen (s s′ : Stands) (o : Orders) (t : List ℕ) : Type 0 where
+  anywhere : ((m : List Bool) → ordersFit m o ≡ true) → Chosen s s′ o t
+  here : s′ .cylinder ≡ s .cylinder → s′ .head ≡ s .head → ordersFit (marks t) o ≡ true → Chosen s s′ o t
+
+pub record Left (g : Shape) (s : Stands) (t : List ℕ) (x : Turn) : Type 0 where
+  pub standing : standsFit g (x .stands) ≡ true
+  pub pieces : PiecesOn (s .head) (x .lays)
+  pub chosen : Chosen s (x .stands) (x .orders) (laid (x .lays) t)
+
+module _ (g : Shape) (tr : Tracks) (s : Stands) (o : Orders) (code : ℕ) (v : List ℕ)
+    (ok : standsFit g s ≡ true) (wh : Whole (tr (s .head))) (fit : ordersFit (marks (tr (s .head))) o ≡ true) where
+  abbrev t : List ℕ
+  t = tr (s .head)
+
+  abbrev Fine : Turn → Type 0
+  Fine x = Left g s t x
+
+  checks-left : (l : List Lies) (row : Row) → Fine (checks s o l row)
+  unfolding checks sensing standing laid
+  checks-left l row = record {
+    standing = stands-fit g _ (stands-on g s ok) (place-in g s ok);
+    pieces = tt;
+    chosen = here refl refl fit;
+  }
+
+  module _ (r : Rule) (same : r .selects ≡ ruleOf code .selects) (k : Task) (n : Counts) (on : TaskOn (marks t) r s k) where
+    abbrev j : Job
+    j = jobOf code r s o k n
+
+    abbrev x : Sight
+    x = sight tr j v
+
+    fails-left : (row : Row) → Fine (fails x row)
+    unfolding fails sight
+    fails-left row = checks-left _ row
+
+    -- at a place of the track, what is selected fits the track that is left
+    ends-left : (k′ : Task) (e : Ending) (m : Moves) (l : List Piece) (whole : Bool) → k′ .head ≡ s .head → k′ .place ≤ trackCells → k′ .tally ≤ mostTally
+        → PiecesOn (s .head) l → Leaves (marks (laid l t)) (r .selects) (k′ .selection) → Fine (endsAt x k′ e m l whole)
+    unfolding endsAt standsAfter standing ordersAfter after sight
+    ends-left k′ e m l whole h p q on-track sel =
+        let there = stands-on g s ok in
+        record {
+          standing = stands-fit g _ (record { cylinder = there .cylinder; head = subst (λ z. z .0 < g .heads) (sym h) (there .head) }) p;
+          pieces = on-track;
+          chosen = here refl h (ordered-fit _ (o .mask) (o .«mask_set») code whole (k′ .tally) (k′ .selection) (mask-legal _ o fit) q
+              (subst (λ (b : Bool). Leaves (marks (laid l t)) b (k′ .selection)) same sel));
+        }
+
+    rests-left : (e : Ending) (m : Moves) (whole : Bool) → Fine (ends x e m [] whole)
+    unfolding ends sight laid
+    rests-left e m whole = ends-left k e m [] whole (on .here) (on .place) (on .tally) tt (on .leaves)
+
+    -- ---- control
+
+    -- no marker is selected: it fits whatever track is left
+    free-leaves : (m : List Bool) (y : Selection) → NoMarker y → Leaves (marks t) (r .selects) y → Leaves m (r .selects) y
+    unfolding spotFits
+    free-leaves m Nothing f h = h
+    free-leaves m (On Spot.Zero) f h = refl
+    free-leaves m (On (Spot.Marker p)) f h = absurd f
+
+    arrives-left : (a : Sought) → SoughtOn g a → NoMarker (k .selection) → Fine (arrives x a)
+    unfolding arrives sought standing ordersAfter after sight
+    arrives-left (Sought.Stands c h) there free = record {
+      standing = stands-fit g _ there (omega arith);
+      pieces = tt;
+      chosen = anywhere (λ m. ordered-fit m (o .mask) (o .«mask_set») code false (k .tally) (k .selection) (mask-legal _ o fit) (on .tally)
+          (subst (λ (b : Bool). Leaves m b (k .selection)) same (free-leaves m (k .selection) free (on .leaves))));
+    }
+    arrives-left (Sought.Fails row) there free = fails-left row
+
+    sought-on : (q : Seeking) → SoughtOn g (soughtBy g q (s .cylinder) v)
+    unfolding soughtBy
+    sought-on Seeking.Seek = seek-to-on g _ _ _
+    sought-on Seeking.SeekCylinder = seek-to-on g _ _ _
+    sought-on Seeking.SeekHead = seek-head-on g (s .cylinder) (stands-on g s ok .cylinder) _
+
+    addressed-on : (q : Seeking) → SoughtOn g (addressed g q (s .cylinder) v)
+    unfolding addressed
+    addressed-on q = pick-all (SoughtOn g) (ltb (length v) 6) {x = Sought.Fails Row.BadSeek} tt (sought-on q)
+
+    masks-left : (byte : ℕ) → r .selects ≡ false → Fine (masks x byte)
+    unfolding masks masked standsAfter standing sight
+    masks-left byte none = go (legal byte) refl
+      where
+        go : (b : Bool) → legal byte ≡ b → Fine (pick b (pick (o .«mask_set») (fails x Row.SecondMask) (masked x byte)) (fails x Row.BadMask))
+        go true e =
+            let there = stands-on g s ok in
+            pick-all Fine (o .«mask_set») (fails-left Row.SecondMask)
+            (record {
+              standing = stands-fit g _ (record { cylinder = there .cylinder; head = subst (λ z. z .0 < g .heads) (sym (on .here)) (there .head) }) (on .place);
+              pieces = tt;
+              chosen = anywhere (λ m. ordered-fit m byte true code false 0 Nothing e (omega arith) (sym same ∙ none));
+            })
+        go false e = fails-left Row.BadMask
+
+    spaces-left : r .selects ≡ false → Fine (spaces x)
+    unfolding spaces spacedPlace sight laid
+    spaces-left none =
+        let b : Bool = isHome (ruleOf (o .before) .aim) in
+        ends-left _ Normal _ [] false (on .here)
+        (subst (λ (h : Head). spaceRecord (marks (tr h)) (s .place) b ≤ trackCells) (sym (on .here)) (space-in t (s .place) b wh)) (omega arith) tt none
+
+    does-left : (a : Control) → r .selects ≡ false → NoMarker (k .selection) → Fine (does g a x)
+    unfolding does rests senses seeks sight
+    does-left Control.Unknown none free = fails-left Row.UnknownCode
+    does-left Control.NoOp none free = rests-left Normal _ false
+    does-left Control.Sense none free = rests-left Normal _ false
+    does-left (Control.Seek q) none free = arrives-left _ (addressed-on q) free
+    does-left Control.SetMask none free = masks-left _ none
+    does-left Control.SpaceRecord none free = spaces-left none
+
+    -- ---- writes
+
+    home-left : NoMarker (k .selection) → Fine (laysHome x)
+    unfolding laysHome ends piece sight
+    home-left free =
+        ends-left k Normal _ _ false (on .here) (on .place) (on .tally)
+        (on .here, length-to-end 0 (Area.laid (padded homeBytes v)) (omega (arith, length-area homeBytes v)), tt) (free-leaves _ (k .selection) free (on .leaves))
+
+    new-left : (k′ : Task) (first : ℕ) (c : Counts) (need : ℕ) (w : List ℕ) → k′ .head ≡ s .head → k′ .tally ≤ mostTally → length w ≡ need
+        → (fits first need ≡ true → k′ .place ≤ trackCells)
+        → (fits first need ≡ true → Leaves (marks (laid (piece x first (toEnd first w) ∷ []) t)) (r .selects) (k′ .selection))
+        → Fine (laysNew x k′ first c need w)
+    unfolding laysNew piece sight
+    new-left k′ first c need w h q long place leaves = go (fits first need) refl
+      where
+        go : (b : Bool) → fits first need ≡ b
+            → Fine (pick b (endsAt x k′ Normal (Takes (recordTakes (x .sent) c)) (piece x first (toEnd first w) ∷ []) false) (fails x Row.NoRoom))
+        go true e =
+            ends-left k′ Normal _ _ false h (place e) q (pieces-on (omega (arith, long, fits-ends first need e))) (leaves e)
+          where
+            pieces-on : first + length w ≤ trackCells → PiecesOn (s .head) (piece x first (toEnd first w) ∷ [])
+            pieces-on inside = (on .here, length-to-end first w inside, tt)
+        go false e = fails-left Row.NoRoom
+
+    r0-left : NoMarker (k .selection) → (flag : ℕ) → Fine (laysR0 x flag)
+    unfolding laysR0 sight
+    r0-left free flag =
+        new-left k zeroFirst (newCounts flag v) (recordCells (newCounts flag v)) (newRecord flag v) (on .here) (on .tally) (length-new flag v) (λ e. on .place)
+        (λ e. free-leaves _ (k .selection) free (on .leaves))
+
+    -- the new marker is one of the track's
+    new-mark : (at : ℕ) (w : List ℕ) → 7 ≤ at → at + suc (length w) ≤ trackCells
+        → getD (marks (laid (piece x at (toEnd at (marker ∷ w)) ∷ []) t)) at false ≡ true
+    unfolding laid piece sight
+    new-mark at w h inside =
+        let same-track = format-is t at (marker ∷ w) (wh .long) inside in
+        ap (λ (z : List ℕ). getD (marks z) at false) same-track
+        ∙ getD-marks (formatted t at (marker ∷ w)) at
+        ∙ mark-here (formatted t at (marker ∷ w)) at h
+        (ap (λ (i : ℕ). getD (formatted t at (marker ∷ w)) i 0) (sym (add-zero at)) ∙ formatted-inside t at (marker ∷ w) (omega (arith, wh .long)) 0 (omega arith))
+
+    record-left : (at flag : ℕ) → 7 ≤ at → Fine (laysRecord x at flag)
+    unfolding laysRecord needed sight spotFits
+    record-left at flag h =
+        new-left (task (k .head) (at + 1) (On (Spot.Marker at)) 0) at (newCounts flag v) (1 + recordCells (newCounts flag v)) (marker ∷ newRecord flag v)
+        (on .here) (omega arith) (ap suc (length-new flag v) ∙ omega arith) (λ e. omega (arith, fits-ends at _ e))
+        (λ e. new-mark at (newRecord flag v) h (omega (arith, length-new flag v, fits-ends at (1 + recordCells (newCounts flag v)) e)))
+
+    update-left : (key : Bool) → r .act ≡ Act.Write (Write.Update key) → NoMarker (k .selection) → Fine (updates key x (k .place) n)
+    unfolding updates sight goesOver writesOver ends
+    update-left key act free = go (x .recorded) refl
+      where
+        go : (b : Bool) → x .recorded ≡ b → Fine (pick b
+            (endsAt x k (endingOf j) (Takes (keySent key n + n .dl))
+            (over x (keyArea (k .place) n) 0 (keySent key n) ++ over x (dataArea (k .place) n) (keySent key n) (n .dl)) false)
+            (fails x Row.Unreadable))
+        go true e =
+            let rec : allRecorded t (named (k .place) key true n) ≡ true =
+            (λ i. allRecorded (tr (sym (on .here) i)) (goesOver (sym act i) (k .place) n)) ∙ e in
+            ends-left k _ _ _ false (on .here) (on .place) (on .tally)
+            (update-on x (s .head) t key (k .place) n (on .here) (wh .long) rec) (free-leaves _ (k .selection) free (on .leaves))
+        go false e = fails-left Row.Unreadable
+
+    lays-left : (w : Write) → r .act ≡ Act.Write w → WriteFree w (k .selection) → Fine (lays w x)
+    unfolding lays sight endBy recordCells
+    lays-left Write.HomeAddress act free = home-left free
+    lays-left Write.R0 act free = r0-left free _
+    lays-left Write.CountKeyData act free = record-left _ _ (omega arith)
+    lays-left (Write.Update key) act free = update-left key act free
+
+    -- ---- all of them
+
+    acts-left : (a : Act) → r .act ≡ a → steady a r ≡ true → ActFree a (k .selection) → Fine (acts g a x)
+    unfolding acts steady compares comparesWith gives sight
+    acts-left (Act.Control a) act e free = does-left a (not-true (r .selects) e) free
+    acts-left (Act.Search h) act e free = rests-left _ _ _
+    acts-left (Act.Read c) act e free = rests-left _ _ _
+    acts-left (Act.Write w) act e free = lays-left w act free
+
+  module _ (r : Rule) (same : r .selects ≡ ruleOf code .selects) (tm : tame r ≡ true) where
+    read-left : (l : List Lies) (k : Task) (y : Got) → TaskOn (marks t) r s k → ActFree (r .act) (k .selection)
+        → Fine (turnBy g tr s o v l (hasRead code r s o k y))
+    unfolding turnBy hasRead tame
+    read-left l k (Sees n) on free = acts-left r same k n on (r .act) refl (second-of (selectsOne (r .aim) (r .selects)) _ tm) free
+    read-left l k (Fails row) on free = checks-left l row
+
+    plan-left : (l : List Lies) (p : Plan) → PlanOn (marks t) r s p → OnPlan (ActFree (r .act)) p → Fine (turnBy g tr s o v l (readyBy tr code r s o p))
+    unfolding turnBy readyBy
+    plan-left l (Refuses row) on free = checks-left l row
+    plan-left l (Works k) on free = read-left l k _ on free
+
+    obeys-left : Fine (obeys g tr code r s o v)
+    unfolding obeys tame
+    obeys-left =
+        plan-left _ (plans r (marksOf tr) s o)
+        (plan-on tr r s o wh (selected-on _ o fit) (place-in g s ok) (first-of (selectsOne (r .aim) (r .selects)) _ tm))
+        (act-free r (marksOf tr) s o (r .act) (second-of (selectsOne (r .aim) (r .selects)) _ tm))
+
+  pub command-left : Left g s (tr (s .head)) (command g tr s o code v)
+  unfolding command
+  command-left = obeys-left (ruleOf code) refl (tame-rule code)

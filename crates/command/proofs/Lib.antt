@@ -1,0 +1,3 @@
+-- Laws of the commands.
+pub mod Plans
+pub mod Pieces

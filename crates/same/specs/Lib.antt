@@ -1,2 +1,0 @@
--- One command word by turns.
-pub mod Step

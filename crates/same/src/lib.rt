@@ -1,1 +1,0 @@
-// No code: the model of turns is the model of the chain.
