@@ -4,3 +4,5 @@ pub mod Left
 pub mod Pack
 pub mod Legal
 pub mod Runs
+pub mod Laws
+pub mod Strokes

@@ -5,60 +5,19 @@ use mathlib.Core.Bool.{Bool, true, false}
 use mathlib.Core.List.{List}
 use native.Mathlib.Omega.{arith}
 use lib.ListN.{length}
-use lib.Dec.{ltb, leb}
-use borrow.Author.Tests.{ltb-true, leb-true, eqb-true, lt-ltb, le-leb}
+use lib.Dec.{leb}
+use borrow.Author.Tests.{leb-true, eqb-true}
 use Rattle.cells.specs.Choice.{pick}
 use Rattle.cells.proofs.Tests.{first-of, second-of, both-of}
-use Rattle.mask.specs.Mask.{legal}
 use Rattle.pack.specs.declared.Shape.{Shape}
-use Rattle.pack.specs.Shapes.{mostCylinders, mostHeads, from1To, packFits, cylinderOn, headOn}
+use Rattle.pack.specs.Shapes.{mostCylinders, mostHeads, from1To, packFits}
 use Rattle.pack.specs.Tracks.{Whole}
-use Rattle.held.specs.declared.Stands.{Stands}
-use Rattle.held.specs.declared.Orders.{Orders}
-use Rattle.held.specs.declared.Channel.{Channel}
 use Rattle.chain.specs.Step.{World}
-use Rattle.chain.specs.Legal.{Ordered, Channeled, Standing, Legal}
+use Rattle.chain.specs.Legal.{storageFits, standsFit, channelFits, heldFits, Legal}
 use Rattle.host.specs.declared.Answer.{Answer}
 use Rattle.host.specs.declared.Answer.the-variants.{BadStorage, BadPack, BadHeld}
 use Rattle.host.specs.declared.Guarded.the-variants.{Passes, Answers}
-use Rattle.host.specs.Host.{storageFits, standsFit, ordersFit, channelFits, heldFits, guardOf}
-
--- ---- refusal 4, part by part
-
-pub stands-standing : (g : Shape) (s : Stands) → standsFit g s ≡ true → Standing g s
-unfolding standsFit
-stands-standing g s e =
-    let f = second-of (cylinderOn g (s .cylinder)) _ e in
-    record {
-      on = record { cylinder = ltb-true _ _ (first-of (cylinderOn g (s .cylinder)) _ e); head = ltb-true _ _ (first-of (headOn g (s .head)) _ f) };
-      place = leb-true _ _ (second-of (headOn g (s .head)) _ f);
-    }
-
-standing-stands : (g : Shape) (s : Stands) → Standing g s → standsFit g s ≡ true
-unfolding standsFit
-standing-stands g s k = both-of (lt-ltb _ _ (k .on .cylinder)) (both-of (lt-ltb _ _ (k .on .head)) (le-leb _ _ (k .place)))
-
-orders-ordered : (m : List Bool) (o : Orders) → ordersFit m o ≡ true → Ordered m o
-unfolding ordersFit
-orders-ordered m o e =
-    let f = second-of (legal (o .mask)) _ e in
-    record {
-      mask = first-of (legal (o .mask)) _ e;
-      tally = leb-true _ _ (first-of (leb (o .tally) 1) _ f);
-      selected = second-of (leb (o .tally) 1) _ f;
-    }
-
-ordered-orders : (m : List Bool) (o : Orders) → Ordered m o → ordersFit m o ≡ true
-unfolding ordersFit
-ordered-orders m o k = both-of (k .mask) (both-of (le-leb _ _ (k .tally)) (k .selected))
-
-channel-channeled : (c : Channel) → channelFits c ≡ true → Channeled c
-unfolding channelFits
-channel-channeled c e = record { key = ltb-true _ _ (first-of (ltb (c .key) 16) _ e); next = ltb-true _ _ (second-of (ltb (c .key) 16) _ e) }
-
-channeled-channel : (c : Channel) → Channeled c → channelFits c ≡ true
-unfolding channelFits
-channeled-channel c k = both-of (lt-ltb _ _ (k .key)) (lt-ltb _ _ (k .next))
+use Rattle.host.specs.Host.{guardOf}
 
 -- ---- refusal 3
 
@@ -93,15 +52,15 @@ module _ (g : Shape) (w : World) where
       record {
         whole = fits-whole g (w .cells) (t .1);
         room = leb-true _ _ (first-of (leb 80 (length (w .storage))) _ (t .0));
-        standing = stands-standing g (w .held .stands) (first-of (standsFit g (w .held .stands)) _ (t .2));
-        ordered = orders-ordered _ _ (second-of (channelFits (w .held .channel)) _ f);
-        channeled = channel-channeled (w .held .channel) (first-of (channelFits (w .held .channel)) _ f);
+        standing = first-of (standsFit g (w .held .stands)) _ (t .2);
+        channeled = first-of (channelFits (w .held .channel)) _ f;
+        ordered = second-of (channelFits (w .held .channel)) _ f;
       }
 
   pub legal-passes : Legal g w → storageFits (length (w .storage)) ≡ true → packFits g (length (w .cells)) ≡ true → guardOf g w ≡ Passes
   unfolding guardOf heldFits
   legal-passes L p q =
-      let r : heldFits g w ≡ true = both-of (standing-stands g _ (L .standing)) (both-of (channeled-channel _ (L .channeled)) (ordered-orders _ _ (L .ordered))) in
+      let r : heldFits g w ≡ true = both-of (L .standing) (both-of (L .channeled) (L .ordered)) in
       λ i. pick (p i) (pick (q i) (pick (r i) Passes (Answers BadHeld)) (Answers BadPack)) (Answers BadStorage)
 
   pub passes-sizes : guardOf g w ≡ Passes → (storageFits (length (w .storage)) ≡ true) × (packFits g (length (w .cells)) ≡ true)

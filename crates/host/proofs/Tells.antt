@@ -26,20 +26,20 @@ use Rattle.pack.specs.declared.Shape.{Shape}
 use Rattle.pack.specs.Shapes.{packFits}
 use Rattle.pack.specs.Tracks.{startOf, trackAt}
 use Rattle.pack.proofs.Laws.{lent-is}
-use Rattle.commands.specs.declared.Command.{Command}
-use Rattle.commands.specs.Commands.{commandOf, selects}
+use Rattle.table.specs.declared.Rule.{Rule}
+use Rattle.table.specs.Table.{ruleOf}
 use Rattle.held.specs.declared.Selection.{Selection}
 use Rattle.held.specs.declared.Selection.the-variants.{Nothing, On}
 use Rattle.held.specs.declared.Orders.{Orders}
 use Rattle.held.specs.declared.Held.{Held}
-use Rattle.chain.specs.Step.{World, world, under, run}
-use Rattle.chain.specs.Legal.{selectionFits}
+use Rattle.chain.specs.Step.{World, world, under, selected, run}
+use Rattle.chain.specs.Legal.{storageFits, standsFit, channelFits, selectionFits, ordersFit, heldFits}
 use Rattle.hunt.specs.Hunt.{spotFits}
 use Rattle.host.specs.declared.Answer.{Answer}
 use Rattle.host.specs.declared.Answer.the-variants.{ChainEnded, AllowanceUsed, BadStorage, BadPack, BadHeld, NoChain, ChainGoing}
 use Rattle.host.specs.declared.Guarded.{Guarded}
 use Rattle.host.specs.declared.Guarded.the-variants.{Passes, Answers}
-use Rattle.host.specs.Host.{Hears, hears, storageFits, standsFit, ordersFit, channelFits, heldFits, guardOf, wrongHeld, guards, refusesStart, beginning, firstWord, begins, starts, ran, goes}
+use Rattle.host.specs.Host.{Hears, hears, guardOf, wrongHeld, guards, refusesStart, beginning, firstWord, begins, starts, ran, goes}
 
 pub hears-eq : {a b : Answer} {h k : Held} {s t c d : List ℕ} → a ≡ b → h ≡ k → s ≡ t → c ≡ d → hears a (world h s c) ≡ hears b (world k t d)
 hears-eq p q r u = λ i. hears (p i) (world (q i) (r i) (u i))
@@ -54,10 +54,9 @@ pub spot-marker : (t : List ℕ) (s : Spot) (p : ℕ) (b : Bool) → s ≡ Marke
 unfolding spotFits
 spot-marker t s p b e q = q ∙ sym (getD-marks t p) ∙ ap (spotFits (marks t)) (sym e)
 
-pub none-selected : (m : List Bool) (o : Orders) (x : Selection) (c : Command) (b : Bool) → x ≡ Nothing → c ≡ commandOf (o .before) → b ≡ selects c
-    → not b ≡ selectionFits m o x
+pub none-selected : (m : List Bool) (o : Orders) (x : Selection) (r : Rule) → x ≡ Nothing → r ≡ ruleOf (o .before) → not (r .selects) ≡ selectionFits m o x
 unfolding selectionFits
-none-selected m o x c b e p q = ap not (q ∙ ap selects p) ∙ ap (selectionFits m o) (sym e)
+none-selected m o x r e p = ap (λ (y : Rule). not (y .selects)) p ∙ ap (selectionFits m o) (sym e)
 
 pub some-selected : (m : List Bool) (o : Orders) (x : Selection) (s : Spot) (b : Bool) → x ≡ On s → b ≡ spotFits m s → b ≡ selectionFits m o x
 unfolding selectionFits
@@ -83,7 +82,7 @@ module _ (m : List Bool) (o : Orders) (b : Bool) (e : b ≡ legal (o .mask)) whe
 module _ (g : Shape) (h : Held) (cells : List ℕ) (b : Bool) (e : b ≡ standsFit g (h .stands)) where
   all : (s : List ℕ) → (x y z : Bool) → standsFit g (h .stands) ≡ x → channelFits (h .channel) ≡ y
       → ordersFit (marks (trackAt cells (under g h))) (h .orders) ≡ z → both x (both y z) ≡ heldFits g (world h s cells)
-  unfolding heldFits
+  unfolding heldFits selected
   all s x y z p q r = λ i. both (sym p i) (both (sym q i) (sym r i))
 
   pub bad-stands : b ≡ false → (s : List ℕ) → false ≡ heldFits g (world h s cells)

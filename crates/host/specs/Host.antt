@@ -3,27 +3,19 @@ use Prim.Native.Nat.{ℕ}
 use mathlib.Core.Bool.{Bool, true, false}
 use mathlib.Core.List.{List, [], _∷_}
 use lib.ListN.{length}
-use lib.Dec.{ltb, leb}
-use Rattle.cells.specs.Choice.{pick, both}
+use Rattle.cells.specs.Choice.{pick}
 use Rattle.cells.specs.Bytes.{overlay}
-use Rattle.cells.specs.Cells.{trackCells, marks}
-use Rattle.mask.specs.Mask.{legal}
 use Rattle.words.specs.declared.Begun.{Begun}
 use Rattle.words.specs.declared.Begun.the-variants.{Begins, Refused}
 use Rattle.words.specs.declared.Tested.{Tested}
 use Rattle.words.specs.declared.Tested.the-variants.{Obey, Jump, Bad}
-use Rattle.words.specs.Words.{addresses, along, begunBy, tested}
+use Rattle.words.specs.Words.{along, begunBy, tested}
 use Rattle.pack.specs.declared.Shape.{Shape}
-use Rattle.pack.specs.Shapes.{packFits, cylinderOn, headOn}
-use Rattle.pack.specs.Tracks.{trackAt}
-use Rattle.held.specs.declared.Stands.{Stands}
-use Rattle.held.specs.declared.Orders.{Orders}
-use Rattle.held.specs.declared.Channel.{Channel}
+use Rattle.pack.specs.Shapes.{packFits}
 use Rattle.held.specs.declared.Held.{Held}
 use Rattle.held.specs.Held.{fresh}
-use Rattle.chain.specs.Step.{World, world, under, run}
-use Rattle.chain.specs.Legal.{selectionFits, keys, leastStorage}
-use Rattle.plan.specs.Plan.{mostTally}
+use Rattle.chain.specs.Step.{World, world, run}
+use Rattle.chain.specs.Legal.{storageFits, heldFits}
 use Rattle.host.specs.declared.Answer.{Answer}
 use Rattle.host.specs.declared.Answer.the-variants.{ChainEnded, AllowanceUsed, BadStorage, BadPack, BadHeld, BadStart, NoChain, ChainGoing}
 use Rattle.host.specs.declared.Guarded.{Guarded}
@@ -48,31 +40,7 @@ pub record Hears : Type 0 where
 abbrev pub hears : Answer → World → Hears
 hears a w = record { answer = a; left = w }
 
--- ---- refusals 2, 3 and 4
-
--- 2: storage under 80 or over 16,777,216 bytes
-unfoldable pub storageFits : ℕ → Bool
-storageFits n = both (leb leastStorage n) (leb n addresses)
-
--- 4: off the pack, place over 4,096
-unfoldable pub standsFit : Shape → Stands → Bool
-standsFit g s =
-    both (cylinderOn g (s .cylinder)) (both (headOn g (s .head)) (leb (s .place) trackCells))
-
--- illegal mask, tally over 1, a selection that does not fit
-unfoldable pub ordersFit : List Bool → Orders → Bool
-ordersFit m o = both (legal (o .mask)) (both (leb (o .tally) mostTally) (selectionFits m o (o .selection)))
-
--- key over 15, next address over 24 bits
-unfoldable pub channelFits : Channel → Bool
-channelFits c = both (ltb (c .key) keys) (ltb (c .next) addresses)
-
-unfoldable pub heldFits : Shape → World → Bool
-heldFits g w =
-    both (standsFit g (w .held .stands))
-    (both (channelFits (w .held .channel)) (ordersFit (marks (trackAt (w .cells) (under g (w .held)))) (w .held .orders)))
-
--- in order
+-- ---- refusals 2, 3 and 4, in order
 unfoldable pub guardOf : Shape → World → Guarded
 guardOf g w =
     pick (storageFits (length (w .storage)))
