@@ -1,0 +1,2 @@
+-- Laws of how the channel ends a command.
+pub mod Laws

@@ -1,0 +1,26 @@
+-- Each arm knows the ending, and gives what the model has there.
+use Rattle.turn.specs.Turn.{isCheck}
+use borrow.Author.Needs.{needs}
+use Rattle.channel.proofs.is_check.Statement.{statement}
+use Rattle.channel.proofs.is_check.Tie as tie
+
+returns : tie.Need-returns
+unfolding isCheck
+returns c = rw (c .enum-told .given .1)
+
+returns-2 : tie.Need-returns-2
+unfolding isCheck
+returns-2 c = rw (c .enum-told2 .given .1)
+
+returns-3 : tie.Need-returns-3
+unfolding isCheck
+returns-3 c = rw (c .enum-told3 .given .1)
+
+returns-4 : tie.Need-returns-4
+unfolding isCheck
+returns-4 c = rw (c .enum-told4 .given .1)
+
+pub is-check-spec : {M : Type 1} → statement M
+is-check-spec =
+    tie.close
+    (tie.spec (λ c. search needs) (λ c. search needs) (λ c. search needs) (λ c. search needs) returns returns-2 returns-3 returns-4)
