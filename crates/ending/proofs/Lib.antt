@@ -1,0 +1,2 @@
+-- Laws of a command's end.
+pub mod Laws
