@@ -1,0 +1,202 @@
+// The control commands.
+use command::Job;
+use command::Task;
+use held::Orders;
+use held::Selection;
+use held::Stands;
+use mask::Seeking;
+use outcome::Ending;
+use pack::Cylinder;
+use pack::Head;
+use pack::Shape;
+use pack::Sought;
+use rows::Row;
+use table::Control;
+use turn::Moving;
+use turn::Told;
+ghost use mathlib.Core.Path.{_≡_};
+ghost use mathlib.Core.List.{List};
+ghost use Prim.Native.Nat.{ℕ, _+_, _-_, _≤_, min};
+ghost use lib.ListN.{length, getD};
+ghost use Rattle.cells.specs.Bytes.{be16};
+ghost use Rattle.hunt.specs.Hunt.{Whole};
+ghost use Rattle.turn.specs.Turn.{Tracks, alone, toldOf, filled};
+ghost use Rattle.command.specs.Command.{sight, fails, senseBytes, soughtBy, addressed, arrives, seeks, masked, masks, spaces, does};
+
+// The bytes that Sense gives.
+const SENSE: u32 = 6;
+
+// The bytes that a seek takes, BB CC HH, and that Set File Mask takes.
+const SEEK: u32 = 6;
+
+const MASK: u32 = 1;
+
+fn fails(j: Job, row: Row) -> Told
+    ensures { λ r. ⌜ ((t : Tracks) (v : List ℕ) → r ≡ toldOf (fails (sight t j v) row)) ⌝ }
+{
+    let stands = j.stands;
+    let orders = j.orders;
+    ending::failed(stands, orders, row)
+}
+
+// Two of the bytes sent, as one number.
+fn two(sent: &[u8], at: usize) -> u16
+    requires { ⌜ at + 2 ≤ length (now sent) ⌝ }
+    ensures { λ r. ⌜ r ≡ be16 (now (sent .entry)) at ⌝ }
+{
+    cells::pair(sent[at], sent[at + 1])
+}
+
+// What the six bytes of a seek come to.
+fn sought_by(g: Shape, k: Seeking, c: Cylinder, sent: &[u8]) -> Sought
+    requires { ⌜ 6 ≤ length (now sent) ⌝ }
+    ensures { λ r. ⌜ r ≡ soughtBy g k c (now (sent .entry)) ⌝ }
+{
+    let bb = two(sent, 0);
+    let cylinder = Cylinder(two(sent, 2));
+    let head = Head(two(sent, 4));
+    match k {
+        Seeking::Seek => pack::seek_to(g, bb, cylinder, head),
+        Seeking::SeekCylinder => pack::seek_to(g, bb, cylinder, head),
+        Seeking::SeekHead => pack::seek_head(g, c, head),
+    }
+}
+
+fn addressed(g: Shape, k: Seeking, c: Cylinder, sent: &[u8]) -> Sought
+    ensures { λ r. ⌜ r ≡ addressed g k c (now (sent .entry)) ⌝ }
+{
+    if sent.len() < SEEK as usize {
+        return Sought::Fails(Row::BadSeek);
+    }
+    sought_by(g, k, c, sent)
+}
+
+fn arrives(j: Job, x: Sought) -> Told
+    ensures { λ r. ⌜ ((t : Tracks) (v : List ℕ) → r ≡ toldOf (arrives (sight t j v) x)) ⌝ }
+{
+    match x {
+        Sought::Stands(c, h) => {
+            let task = j.task;
+            let stands = outcome::arrived(c, h);
+            let orders = ending::orders_after(j, task, false);
+            Told {
+                ending: Ending::Normal,
+                moving: Moving::Takes(SEEK),
+                stands,
+                orders,
+            }
+        }
+        Sought::Fails(row) => fails(j, row),
+    }
+}
+
+fn seek(g: Shape, k: Seeking, j: Job, sent: &[u8]) -> Told
+    ensures { λ r. ⌜ ((t : Tracks) → r ≡ toldOf (seeks g k (sight t j (now (sent .entry))))) ⌝ }
+{
+    let cylinder = j.stands.cylinder;
+    let x = addressed(g, k, cylinder, sent);
+    arrives(j, x)
+}
+
+fn masked(j: Job, byte: u8) -> Told
+    ensures { λ r. ⌜ ((t : Tracks) (v : List ℕ) → r ≡ toldOf (masked (sight t j v) byte)) ⌝ }
+{
+    let task = j.task;
+    let stands = ending::stands_after(j, task);
+    let orders = Orders {
+        mask: byte,
+        mask_set: true,
+        before: j.code,
+        whole: false,
+        tally: 0,
+        selection: Selection::Nothing,
+    };
+    Told {
+        ending: Ending::Normal,
+        moving: Moving::Takes(MASK),
+        stands,
+        orders,
+    }
+}
+
+// A bad byte is told before a second mask.
+fn set_mask(j: Job, byte: u8) -> Told
+    ensures { λ r. ⌜ ((t : Tracks) (v : List ℕ) → r ≡ toldOf (masks (sight t j v) byte)) ⌝ }
+{
+    if !mask::is_legal(byte) {
+        return fails(j, Row::BadMask);
+    }
+    if j.orders.mask_set {
+        return fails(j, Row::SecondMask);
+    }
+    masked(j, byte)
+}
+
+fn space(j: Job, track: &[u16]) -> Told
+    requires { ⌜ Whole (now track) ⌝ }
+    ensures { λ r. ⌜ ((v : List ℕ) → r ≡ toldOf (spaces (sight (alone (now (track .entry))) j v))) ⌝ }
+{
+    let before = table::rule_of(j.orders.before);
+    let aim = before.aim;
+    let home = table::is_home(aim);
+    let place = hunt::space_record(track, j.stands.place, home) as u16;
+    let head = j.task.head;
+    let task = Task {
+        head,
+        place,
+        selection: Selection::Nothing,
+        tally: 0,
+    };
+    ending::ended_at(j, task, Ending::Normal, Moving::None, false)
+}
+
+// What a control command tells the channel.
+pub fn control(g: Shape, k: Control, j: Job, sent: &[u8], track: &[u16]) -> Told
+    requires { ⌜ Whole (now track) ⌝ }
+    ensures { λ r. ⌜ r ≡ toldOf (does g k (sight (alone (now (track .entry))) j (now (sent .entry)))) ⌝ }
+{
+    match k {
+        Control::Unknown => fails(j, Row::UnknownCode),
+        Control::NoOp => ending::ended(j, Ending::Normal, Moving::None, false),
+        Control::Sense => ending::ended(j, Ending::Normal, Moving::Gives(SENSE), false),
+        Control::Seek(s) => seek(g, s, j, sent),
+        Control::SetMask => set_mask(j, cells::byte_at(sent, 0)),
+        Control::SpaceRecord => space(j, track),
+    }
+}
+
+// Byte i of what Sense gives.
+fn sense_byte(s: Stands, i: usize) -> u8
+    ensures { λ r. ⌜ r ≡ getD (senseBytes s) i 0 ⌝ }
+{
+    if i == 0 {
+        return s.sense.byte0;
+    }
+    if i == 1 {
+        return s.sense.byte1;
+    }
+    0
+}
+
+// How many bytes of sense there are from one on, up to so many.
+fn sense_left(from: u32, most: usize) -> usize
+    ensures { λ r. ⌜ r ≡ min most (6 - from) ⌝ }
+{
+    if from >= SENSE {
+        return 0;
+    }
+    cells::lesser(most, (SENSE - from) as usize)
+}
+
+// The bytes that Sense gives, from one on, put into lent bytes, as many as find room.
+pub fn give_sense(s: Stands, from: u32, into: &mut [u8])
+    ensures { λ _. ⌜ now (into .exit) ≡ filled (now (into .entry)) from (senseBytes s) ⌝ }
+{
+    let first = from as usize;
+    let n = sense_left(from, into.len());
+    let mut i = 0;
+    while i < n {
+        into[i] = sense_byte(s, first + i);
+        i += 1;
+    }
+}
