@@ -1,3 +1,4 @@
 -- Laws of the commands.
 pub mod Plans
 pub mod Pieces
+pub mod Moves

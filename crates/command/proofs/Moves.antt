@@ -1,0 +1,129 @@
+-- Only a turn that takes bytes lays cells, and only one that ends without Unit Check. A line a command.
+use Prim.Native.Nat.{ℕ}
+use mathlib.Core.Path.{_≡_, refl}
+use mathlib.Core.Bool.{Bool, true, false, false≢true}
+use mathlib.Core.List.{List, [], _∷_, _++_}
+use lib.Dec.{eqb}
+use Rattle.cells.specs.Choice.{pick, both}
+use Rattle.cells.proofs.Tests.{pick-all}
+use Rattle.rows.specs.declared.Row.{Row}
+use Rattle.rows.specs.declared.Row.the-variants as Row
+use Rattle.mask.specs.Mask.{legal}
+use Rattle.room.specs.Room.{fits}
+use Rattle.areas.specs.declared.Counts.{Counts}
+use Rattle.pack.specs.declared.Shape.{Shape}
+use Rattle.pack.specs.declared.Sought.{Sought}
+use Rattle.pack.specs.declared.Sought.the-variants as Sought
+use Rattle.held.specs.declared.Stands.{Stands}
+use Rattle.held.specs.declared.Orders.{Orders}
+use Rattle.outcome.specs.declared.Ending.{Ending}
+use Rattle.outcome.specs.declared.Ending.the-variants.{Normal, Satisfied, Exception, Check}
+use Rattle.table.specs.declared.Control.{Control}
+use Rattle.table.specs.declared.Control.the-variants as Control
+use Rattle.table.specs.declared.Write.{Write}
+use Rattle.table.specs.declared.Write.the-variants as Write
+use Rattle.table.specs.declared.Act.{Act}
+use Rattle.table.specs.declared.Act.the-variants as Act
+use Rattle.turn.specs.Turn.{Tracks, Lies, Piece, Moves, None, Gives, Takes, Turn, isCheck, checks}
+use Rattle.command.specs.declared.Task.{Task}
+use Rattle.command.specs.declared.Ready.{Ready}
+use Rattle.command.specs.declared.Ready.the-variants as Ready
+use Rattle.command.specs.Command.{Sight, sight, fails, endsAt, ends, endingOf, rests, senses, addressed, arrives, seeks, masked, masks, spaces, satisfied, comparesWith, compares, gives, laysHome, laysNew, laysR0, laysRecord, over, updates, does, lays, acts, turnBy, obeys, command}
+
+abbrev LaysBy : Moves → List Piece → Type 0
+LaysBy None l = l ≡ []
+LaysBy (Gives v) l = l ≡ []
+LaysBy (Takes n) l = Unit {0}
+
+abbrev LaysAt : Ending → List Piece → Type 0
+LaysAt Normal l = Unit {0}
+LaysAt Satisfied l = Unit {0}
+LaysAt Exception l = Unit {0}
+LaysAt (Check row) l = l ≡ []
+
+pub record Lays (t : Turn) : Type 0 where
+  pub moves : LaysBy (t .moves) (t .lays)
+  pub ending : LaysAt (t .ending) (t .lays)
+
+pub checks-lay : (s : Stands) (o : Orders) (l : List Lies) (row : Row) → Lays (checks s o l row)
+unfolding checks
+checks-lay s o l row = record { moves = tt; ending = refl }
+
+module _ (x : Sight) where
+  fails-lay : (row : Row) → Lays (fails x row)
+  unfolding fails
+  fails-lay row = checks-lay _ _ _ row
+
+  arrives-lay : (a : Sought) → Lays (arrives x a)
+  unfolding arrives
+  arrives-lay (Sought.Stands c h) = record { moves = tt; ending = tt }
+  arrives-lay (Sought.Fails row) = fails-lay row
+
+  masked-lay : (byte : ℕ) → Lays (masked x byte)
+  unfolding masked
+  masked-lay byte = record { moves = tt; ending = tt }
+
+  masks-lay : (byte : ℕ) → Lays (masks x byte)
+  unfolding masks
+  masks-lay byte =
+      pick-all Lays (legal byte) (pick-all Lays (x .job .orders .«mask_set») (fails-lay Row.SecondMask) (masked-lay byte)) (fails-lay Row.BadMask)
+
+  does-lay : (g : Shape) (a : Control) → Lays (does g a x)
+  unfolding does rests senses seeks spaces ends endsAt
+  does-lay g Control.Unknown = fails-lay Row.UnknownCode
+  does-lay g Control.NoOp = record { moves = refl; ending = tt }
+  does-lay g Control.Sense = record { moves = refl; ending = tt }
+  does-lay g (Control.Seek k) = arrives-lay _
+  does-lay g Control.SetMask = masks-lay _
+  does-lay g Control.SpaceRecord = record { moves = refl; ending = tt }
+
+  searched : (b : Bool) (l : List Piece) → LaysAt (pick b Satisfied Normal) l
+  searched b l = pick-all (λ (e : Ending). LaysAt e l) b {x = Satisfied} {y = Normal} tt tt
+
+  ended : (l : List Piece) → LaysAt (endingOf (x .job)) l
+  unfolding endingOf
+  ended l = pick-all (λ (e : Ending). LaysAt e l) (both (x .job .rule .excepts) (eqb (x .job .counts .dl) 0)) {x = Exception} {y = Normal} tt tt
+
+  takes-lay : (k : Task) (e : Ending) (n : ℕ) (l : List Piece) (whole : Bool) → LaysAt e l → Lays (endsAt x k e (Takes n) l whole)
+  unfolding endsAt
+  takes-lay k e n l whole h = record { moves = tt; ending = h }
+
+  new-lay : (k : Task) (first : ℕ) (n : Counts) (need : ℕ) (v : List ℕ) → Lays (laysNew x k first n need v)
+  unfolding laysNew
+  new-lay k first n need v = pick-all Lays (fits first need) (takes-lay k Normal _ _ false tt) (fails-lay Row.NoRoom)
+
+  lays-lay : (w : Write) → Lays (lays w x)
+  unfolding lays laysHome laysR0 laysRecord updates ends
+  lays-lay Write.HomeAddress = takes-lay _ Normal _ _ false tt
+  lays-lay Write.R0 = new-lay _ _ _ _ _
+  lays-lay Write.CountKeyData = new-lay _ _ _ _ _
+  lays-lay (Write.Update key) = pick-all Lays (x .recorded) (takes-lay _ _ _ _ false (ended _)) (fails-lay Row.Unreadable)
+
+  pub acts-lay : (g : Shape) (a : Act) → Lays (acts g a x)
+  unfolding acts compares comparesWith gives ends endsAt
+  acts-lay g (Act.Control a) = does-lay g a
+  acts-lay g (Act.Search h) = record { moves = tt; ending = searched (satisfied h _ _) [] }
+  acts-lay g (Act.Read c) = record { moves = refl; ending = ended [] }
+  acts-lay g (Act.Write w) = lays-lay w
+
+-- ---- a command
+
+ready-lay : (g : Shape) (t : Tracks) (s : Stands) (o : Orders) (v : List ℕ) (l : List Lies) (y : Ready) → Lays (turnBy g t s o v l y)
+unfolding turnBy
+ready-lay g t s o v l (Ready.Refuses row) = checks-lay s o l row
+ready-lay g t s o v l (Ready.Acts j) = acts-lay (sight t j v) g (j .rule .act)
+
+pub command-lay : (g : Shape) (t : Tracks) (s : Stands) (o : Orders) (code : ℕ) (v : List ℕ) → Lays (command g t s o code v)
+unfolding command obeys
+command-lay g t s o code v = ready-lay g t s o v _ _
+
+-- a Unit Check lays nothing
+ended-lay : (e : Ending) (l : List Piece) → LaysAt e l → isCheck e ≡ true → l ≡ []
+unfolding isCheck
+ended-lay Normal l h e = absurd (false≢true e)
+ended-lay Satisfied l h e = absurd (false≢true e)
+ended-lay Exception l h e = absurd (false≢true e)
+ended-lay (Check row) l h e = h
+
+pub check-lays : (t : Turn) → Lays t → isCheck (t .ending) ≡ true → t .lays ≡ []
+check-lays t h e = ended-lay (t .ending) (t .lays) (h .ending) e
