@@ -1,0 +1,151 @@
+-- What every command keeps to when it acts: it reads no further area; the cells that it lays are under its task's head; a Unit Check lays none, nor does
+-- any command but a write; only the reads and Sense give bytes. Why: each ends in a Unit Check, or in one turn that is written down.
+use Prim.Native.Nat.{ℕ}
+use mathlib.Core.Path.{_≡_, refl, sym, _∙_}
+use mathlib.Core.Bool.{Bool, true, false, true≢false, false≢true}
+use mathlib.Core.List.{List, [], _∷_, _++_}
+use lib.ListN.{getD}
+use lib.Dec.{ltb, eqb}
+use Rattle.cells.specs.Choice.{both}
+use Rattle.cells.proofs.Tests.{pick-all}
+use Rattle.rows.specs.declared.Row.{Row}
+use Rattle.rows.specs.declared.Row.the-variants as Row
+use Rattle.mask.specs.Mask.{legal}
+use Rattle.areas.specs.declared.Area.{Area}
+use Rattle.areas.specs.declared.Counts.{Counts}
+use Rattle.areas.specs.Areas.{keyArea}
+use Rattle.room.specs.Room.{fits}
+use Rattle.pack.specs.declared.Head.{Head}
+use Rattle.pack.specs.declared.Shape.{Shape}
+use Rattle.pack.specs.declared.Sought.{Sought}
+use Rattle.pack.specs.declared.Sought.the-variants as Sought
+use Rattle.held.specs.declared.Stands.{Stands}
+use Rattle.held.specs.declared.Orders.{Orders}
+use Rattle.outcome.specs.declared.Ending.{Ending}
+use Rattle.table.specs.declared.Control.{Control}
+use Rattle.table.specs.declared.Control.the-variants as Control
+use Rattle.table.specs.declared.Write.{Write}
+use Rattle.table.specs.declared.Write.the-variants as Write
+use Rattle.table.specs.declared.Act.{Act}
+use Rattle.table.specs.declared.Act.the-variants as Act
+use Rattle.turn.specs.Turn.{Lies, Piece, Moves, Takes, given, Turn, turn, isCheck, checks}
+use Rattle.command.specs.declared.Task.{Task}
+use Rattle.command.specs.declared.Job.{Job}
+use Rattle.command.specs.Command.{Sight, fails, endsAt, ends, endingOf, rests, senses, addressed, arrives, seeks, masked, masks, spaces, comparesWith, compares, gives, laysHome, laysNew, laysR0, laysRecord, piece, over, keySent, updates, does, lays, acts}
+use Rattle.frame.specs.Frame.{LaysUnder, laysCells, givesBytes}
+
+-- a turn that an act, having read these areas, may come to under a head
+pub record Keeps (a : Act) (r : List Lies) (h : Head) (y : Turn) : Type 0 where
+  pub reads : y .reads ≡ r
+  pub under : LaysUnder h (y .lays)
+  pub checked : isCheck (y .ending) ≡ true → y .lays ≡ []
+  pub still : laysCells a ≡ false → y .lays ≡ []
+  pub quiet : givesBytes a ≡ false → given (y .moves) ≡ []
+
+-- ---- the turns that there are
+
+-- a Unit Check
+pub check-keeps : (a : Act) (r : List Lies) (h : Head) (s : Stands) (o : Orders) (row : Row) → Keeps a r h (checks s o r row)
+unfolding checks given
+check-keeps a r h s o row = record { reads = refl; under = tt; checked = λ e. refl; still = λ e. refl; quiet = λ e. refl }
+
+-- no cell, no byte given
+pub empty-keeps : (a : Act) (r : List Lies) (h : Head) (e : Ending) (m : Moves) (s : Stands) (o : Orders) → given m ≡ [] → Keeps a r h (turn e m r [] s o)
+empty-keeps a r h e m s o f = record { reads = refl; under = tt; checked = λ e. refl; still = λ e. refl; quiet = λ e. f }
+
+-- bytes given, no cell
+gives-keeps : (a : Act) (r : List Lies) (h : Head) (e : Ending) (m : Moves) (s : Stands) (o : Orders) → givesBytes a ≡ true → Keeps a r h (turn e m r [] s o)
+gives-keeps a r h e m s o f = record {
+  reads = refl;
+  under = tt;
+  checked = λ e. refl;
+  still = λ e. refl;
+  quiet = λ e. absurd (true≢false (sym f ∙ e));
+}
+
+-- cells
+lays-keeps : (w : Write) (r : List Lies) (h : Head) (e : Ending) (n : ℕ) (l : List Piece) (s : Stands) (o : Orders) → isCheck e ≡ false → LaysUnder h l
+    → Keeps (Act.Write w) r h (turn e (Takes n) r l s o)
+unfolding laysCells given
+lays-keeps w r h e n l s o c u = record {
+  reads = refl;
+  under = u;
+  checked = λ f. absurd (false≢true (sym c ∙ f));
+  still = λ f. absurd (true≢false f);
+  quiet = λ f. refl;
+}
+
+module _ (x : Sight) where
+  abbrev At : Act → Turn → Type 0
+  At a y = Keeps a (x .reads) (x .job .task .head) y
+
+  fails-keeps : (a : Act) (row : Row) → At a (fails x row)
+  unfolding fails
+  fails-keeps a row = check-keeps a (x .reads) _ _ _ row
+
+  -- ---- controls
+
+  arrives-keeps : (a : Act) (y : Sought) → At a (arrives x y)
+  unfolding arrives given
+  arrives-keeps a (Sought.Stands c h) = empty-keeps a _ _ _ _ _ _ refl
+  arrives-keeps a (Sought.Fails row) = fails-keeps a row
+
+  masks-keeps : (a : Act) (byte : ℕ) → At a (masks x byte)
+  unfolding masks masked given
+  masks-keeps a byte =
+      pick-all (At a) (legal byte)
+      (pick-all (At a) (x .job .orders .«mask_set») (fails-keeps a Row.SecondMask) (empty-keeps a _ _ _ _ _ _ refl))
+      (fails-keeps a Row.BadMask)
+
+  does-keeps : (g : Shape) (a : Control) → At (Act.Control a) (does g a x)
+  unfolding does rests senses seeks spaces ends endsAt given givesBytes
+  does-keeps g Control.Unknown = fails-keeps _ Row.UnknownCode
+  does-keeps g Control.NoOp = empty-keeps _ _ _ _ _ _ _ refl
+  does-keeps g Control.Sense = gives-keeps _ _ _ _ _ _ _ refl
+  does-keeps g (Control.Seek k) = arrives-keeps _ (addressed g k (x .job .stands .cylinder) (x .sent))
+  does-keeps g Control.SetMask = masks-keeps _ (getD (x .sent) 0 0)
+  does-keeps g Control.SpaceRecord = empty-keeps _ _ _ _ _ _ _ refl
+
+  -- ---- writes
+
+  -- Normal or Unit Exception
+  ending-well : (j : Job) → isCheck (endingOf j) ≡ false
+  unfolding endingOf isCheck
+  ending-well j = pick-all (λ (e : Ending). isCheck e ≡ false) (both (j .rule .excepts) (eqb (j .counts .dl) 0)) refl refl
+
+  new-keeps : (w : Write) (k : Task) (first : ℕ) (n : Counts) (need : ℕ) (v : List ℕ) → At (Act.Write w) (laysNew x k first n need v)
+  unfolding laysNew endsAt piece isCheck
+  new-keeps w k first n need v =
+      pick-all (At (Act.Write w)) (fits first need) (lays-keeps w _ _ _ _ _ _ _ refl (refl, tt)) (fails-keeps _ Row.NoRoom)
+
+  append-under : (h : Head) (l m : List Piece) → LaysUnder h l → LaysUnder h m → LaysUnder h (l ++ m)
+  append-under h [] m u u′ = u′
+  append-under h (p ∷ l) m u u′ = (u .0, append-under h l m (u .1) u′)
+
+  over-under : (a : Area) (from n : ℕ) → LaysUnder (x .job .task .head) (over x a from n)
+  unfolding over piece
+  over-under a from n = pick-all (LaysUnder (x .job .task .head)) (ltb 0 n) (refl, tt) tt
+
+  updates-keeps : (w : Write) (key : Bool) (c : ℕ) (n : Counts) → At (Act.Write w) (updates key x c n)
+  unfolding updates ends endsAt
+  updates-keeps w key c n =
+      pick-all (At (Act.Write w)) (x .recorded)
+      (lays-keeps w _ _ _ _ _ _ _ (ending-well (x .job))
+      (append-under _ (over x (keyArea c n) 0 (keySent key n)) _ (over-under _ _ _) (over-under _ _ _)))
+      (fails-keeps _ Row.Unreadable)
+
+  writes-keeps : (w : Write) → At (Act.Write w) (lays w x)
+  unfolding lays laysHome laysR0 laysRecord ends endsAt piece isCheck
+  writes-keeps Write.HomeAddress = lays-keeps _ _ _ _ _ _ _ _ refl (refl, tt)
+  writes-keeps Write.R0 = new-keeps Write.R0 _ _ _ _ _
+  writes-keeps Write.CountKeyData = new-keeps Write.CountKeyData _ _ _ _ _
+  writes-keeps (Write.Update key) = updates-keeps (Write.Update key) key _ _
+
+  -- ---- all of them
+
+  pub acts-keeps : (g : Shape) (a : Act) → At a (acts g a x)
+  unfolding acts compares comparesWith gives ends endsAt given givesBytes
+  acts-keeps g (Act.Control a) = does-keeps g a
+  acts-keeps g (Act.Search h) = empty-keeps _ _ _ _ _ _ _ refl
+  acts-keeps g (Act.Read counted) = gives-keeps _ _ _ _ _ _ _ refl
+  acts-keeps g (Act.Write w) = writes-keeps w

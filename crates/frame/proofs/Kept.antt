@@ -1,0 +1,138 @@
+-- What a command sees of the pack: the markers, the cells of the areas that it reads, and of those that it goes over whether they are byte cells.
+-- Cylinders that agree in these give the same turn. Why: the areas are read in order, and which they are only the count says, which is one of them.
+use Prim.Native.Nat.{ℕ}
+use mathlib.Core.Path.{_≡_, refl, ap, ap₂, _∙_, subst}
+use mathlib.Core.Bool.{Bool}
+use mathlib.Core.List.{List, [], _∷_}
+use lib.ListN.{take}
+use Rattle.cells.specs.Choice.{pick, both}
+use Rattle.cells.specs.Cells.{bytesOf, marks}
+use Rattle.house_check.specs.Area.{goodCells}
+use Rattle.areas.specs.declared.Area.{Area}
+use Rattle.areas.specs.declared.Counts.{Counts}
+use Rattle.areas.specs.declared.CountRead.{CountRead}
+use Rattle.areas.specs.declared.CountRead.the-variants as CountRead
+use Rattle.areas.specs.Areas.{readable, areaBytes, rowOf, countArea, countsOf, countsAt, readCount}
+use Rattle.pack.specs.declared.Head.{Head}
+use Rattle.pack.specs.declared.Shape.{Shape}
+use Rattle.held.specs.declared.Stands.{Stands}
+use Rattle.held.specs.declared.Orders.{Orders}
+use Rattle.work.specs.declared.Got.{Got}
+use Rattle.work.specs.declared.Got.the-variants.{Sees, Fails}
+use Rattle.work.specs.Work.{namedBy, seeing}
+use Rattle.laying.specs.Laying.{recorded}
+use Rattle.table.specs.declared.Names.{Names}
+use Rattle.table.specs.declared.Names.the-variants as Names
+use Rattle.table.specs.declared.Rule.{Rule}
+use Rattle.table.specs.Table.{ruleOf}
+use Rattle.turn.specs.Turn.{Tracks, Lies, checks}
+use Rattle.command.specs.declared.Task.{Task}
+use Rattle.command.specs.declared.Plan.{Plan}
+use Rattle.command.specs.declared.Plan.the-variants.{Refuses, Works}
+use Rattle.command.specs.declared.Job.{Job}
+use Rattle.command.specs.Command.{marksOf, plans, liesOn, areasOf, allRead, countsIn, gets, saw, goesOver, allRecorded, areasRead, sight, acts, jobOf, hasRead, readyBy, planReads, turnBy, obeys, command}
+use Rattle.frame.specs.Frame.{Same, AllSame, planHead}
+use Rattle.frame.proofs.Turns.{planTurn, command-reads}
+
+module _ (t t′ : Tracks) where
+  -- what else is seen of the track under a head
+  pub record Agrees (h : Head) : Type 0 where
+    pub marked : marks (t h) ≡ marks (t′ h)
+    pub over : (a : Area) → recorded (t h) a ≡ recorded (t′ h) a
+
+  -- ---- an area with the same cells
+
+  pub read-kept : (a : Lies) → Same t t′ a → readable (t (a .head)) (a .area) ≡ readable (t′ (a .head)) (a .area)
+  unfolding readable
+  read-kept a e = ap (goodCells (a .area .bytes)) e
+
+  bytes-kept : (a : Lies) → Same t t′ a → areaBytes (t (a .head)) (a .area) ≡ areaBytes (t′ (a .head)) (a .area)
+  unfolding areaBytes
+  bytes-kept a e = ap (λ (c : List ℕ). take (a .area .bytes) (bytesOf c)) e
+
+  -- ---- a list of them
+
+  list-kept : (l : List Lies) (x : Got) → AllSame t t′ l → allRead t l x ≡ allRead t′ l x
+  unfolding allRead
+  list-kept [] x e = refl
+  list-kept (a ∷ l) x e =
+      ap₂ (λ (b : Bool) (y : Got). pick b y (Fails (rowOf (a .area .part)))) (read-kept a (e .0)) (list-kept l x (e .1))
+
+  saw-kept : (l : List Lies) → AllSame t t′ l → saw t l ≡ saw t′ l
+  unfolding saw
+  saw-kept [] e = refl
+  saw-kept (a ∷ l) e = ap₂ (seeing (a .area .part)) (bytes-kept a (e .0)) (saw-kept l (e .1))
+
+  over-kept : (h : Head) → ((a : Area) → recorded (t h) a ≡ recorded (t′ h) a) → (l : List Area) → allRecorded (t h) l ≡ allRecorded (t′ h) l
+  unfolding allRecorded
+  over-kept h e [] = refl
+  over-kept h e (a ∷ l) = ap₂ both (e a) (over-kept h e l)
+
+  -- ---- the areas of a record whose count area is so
+
+  module _ (h : Head) (c : ℕ) where
+    abbrev countThere : Lies
+    countThere = record { head = h; area = countArea c }
+
+    counts-kept : Same t t′ countThere → countsAt (t h) c ≡ countsAt (t′ h) c
+    unfolding countsAt
+    counts-kept e = ap countsOf (bytes-kept countThere e)
+
+    pub count-kept : Same t t′ countThere → readCount (t h) c ≡ readCount (t′ h) c
+    unfolding readCount
+    count-kept e = ap₂ (λ (b : Bool) (n : Counts). pick b (CountRead.Reads n) CountRead.Fails) (read-kept countThere e) (counts-kept e)
+
+    -- the same are named, and the same counts stand there
+    areas-kept : (n : Names) → AllSame t t′ (areasOf n t h c) → areasOf n t h c ≡ areasOf n t′ h c
+    unfolding areasOf liesOn
+    areas-kept Names.Nothing e = refl
+    areas-kept Names.HomeAddress e = refl
+    areas-kept (Names.Count key body) e = ap (λ (x : CountRead). liesOn h (countArea c ∷ namedBy c key body x)) (count-kept (e .0))
+
+    in-kept : (n : Names) → AllSame t t′ (areasOf n t h c) → countsIn n t h c ≡ countsIn n t′ h c
+    unfolding areasOf liesOn countsIn
+    in-kept Names.Nothing e = refl
+    in-kept Names.HomeAddress e = refl
+    in-kept (Names.Count key body) e = counts-kept (e .0)
+
+    gets-kept : (n : Names) → AllSame t t′ (areasOf n t h c) → gets n t h c ≡ gets n t′ h c
+    unfolding gets
+    gets-kept n e =
+        list-kept (areasOf n t h c) (Sees (countsIn n t h c)) e
+        ∙ ap₂ (λ (l : List Lies) (y : Counts). allRead t′ l (Sees y)) (areas-kept n e) (in-kept n e)
+
+-- ---- a plan: all that it sees is under its head
+
+module _ (g : Shape) (t t′ : Tracks) (s : Stands) (o : Orders) (code : ℕ) (v : List ℕ) where
+  sight-kept : (j : Job) → Agrees t t′ (j .task .head) → AllSame t t′ (areasRead t j) → sight t j v ≡ sight t′ j v
+  unfolding sight areasRead
+  sight-kept j k e =
+      let A = areas-kept t t′ (j .task .head) (j .task .place) (j .rule .names) e in
+      let S = saw-kept t t′ _ e ∙ ap (saw t′) A in
+      let O = over-kept t t′ (j .task .head) (k .over) (goesOver (j .rule .act) (j .task .place) (j .counts)) in
+      λ i. record { job = j; sent = v; reads = A i; seen = S i; marks = k .marked i; recorded = O i }
+
+  got-kept : (r : Rule) (k : Task) (x : Got) → Agrees t t′ (k .head) → AllSame t t′ (areasOf (r .names) t (k .head) (k .place))
+      → turnBy g t s o v (areasOf (r .names) t (k .head) (k .place)) (hasRead code r s o k x)
+      ≡ turnBy g t′ s o v (areasOf (r .names) t′ (k .head) (k .place)) (hasRead code r s o k x)
+  unfolding hasRead turnBy areasRead
+  got-kept r k (Sees n) a e = ap (acts g (r .act)) (sight-kept (jobOf code r s o k n) a e)
+  got-kept r k (Fails row) a e = ap (λ (l : List Lies). checks s o l row) (areas-kept t t′ (k .head) (k .place) (r .names) e)
+
+  pub plan-kept : (r : Rule) (p : Plan) → Agrees t t′ (planHead s p) → AllSame t t′ (planReads t r p)
+      → planTurn g t s o code v r p ≡ planTurn g t′ s o code v r p
+  unfolding planHead planReads readyBy turnBy
+  plan-kept r (Refuses row) a e = refl
+  plan-kept r (Works k) a e =
+      got-kept r k _ a e
+      ∙ ap (λ (x : Got). turnBy g t′ s o v (areasOf (r .names) t′ (k .head) (k .place)) (hasRead code r s o k x))
+      (gets-kept t t′ (k .head) (k .place) (r .names) e)
+
+  -- ---- a command
+
+  pub command-kept : ((h : Head) → marks (t h) ≡ marks (t′ h)) → ((h : Head) (a : Area) → recorded (t h) a ≡ recorded (t′ h) a)
+      → AllSame t t′ (command g t s o code v .reads) → command g t s o code v ≡ command g t′ s o code v
+  unfolding command obeys marksOf
+  command-kept same over e =
+      plan-kept (ruleOf code) _ (record { marked = same _; over = over _ }) (subst (AllSame t t′) (command-reads g t s o code v) e)
+      ∙ (λ i. planTurn g t′ s o code v (ruleOf code) (plans (ruleOf code) (λ h. same h i) s o))

@@ -1,0 +1,2 @@
+-- What a command sees of the pack.
+pub mod Frame

@@ -1,0 +1,2 @@
+-- Where the field of a search lies.
+pub mod Field

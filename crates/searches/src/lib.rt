@@ -1,0 +1,188 @@
+// The searches.
+use areas::Counts;
+use command::Job;
+use commands::How;
+use compare::Compared;
+use outcome::Ending;
+use table::Names;
+use turn::Moving;
+use turn::Told;
+ghost use mathlib.Core.Path.{_≡_};
+ghost use Prim.Native.Nat.{_+_, _≤_, min};
+ghost use lib.ListN.{length};
+ghost use lib.Dec.{leb};
+ghost use Rattle.cells.specs.Choice.{pick, both};
+ghost use Rattle.cells.specs.Bytes.{part};
+ghost use Rattle.cells.specs.Cells.{bytesOf};
+ghost use Rattle.areas.specs.Areas.{countCells};
+ghost use Rattle.commands.specs.declared.How.the-variants.{IfEqual, IfHigh, IfEqualOrHigh};
+ghost use Rattle.outcome.specs.declared.Ending.the-variants.{Normal, Satisfied};
+ghost use Rattle.search.specs.Search.{flagBytes, idBytes, satisfies, found, equalOnly};
+ghost use Rattle.turn.specs.Turn.{alone, toldOf};
+ghost use Rattle.command.specs.Command.{Sighted, sight, comparison, compares};
+ghost use Rattle.searches.specs.Field.{fieldFirst, fieldLength};
+
+// Cells of a flag, and of a count area with its check.
+const FLAG: u16 = 1;
+const COUNT: u16 = 11;
+
+// Bytes of the home address behind its flag, and of an ID.
+const HOME: u16 = 4;
+const ID: u16 = 5;
+
+fn if_equal(x: Compared) -> bool
+    ensures { λ r. ⌜ r ≡ satisfies IfEqual x ⌝ }
+{
+    match x {
+        Compared::Low => false,
+        Compared::Equal => true,
+        Compared::High => false,
+    }
+}
+
+fn if_high(x: Compared) -> bool
+    ensures { λ r. ⌜ r ≡ satisfies IfHigh x ⌝ }
+{
+    match x {
+        Compared::Low => false,
+        Compared::Equal => false,
+        Compared::High => true,
+    }
+}
+
+fn if_equal_or_high(x: Compared) -> bool
+    ensures { λ r. ⌜ r ≡ satisfies IfEqualOrHigh x ⌝ }
+{
+    match x {
+        Compared::Low => false,
+        Compared::Equal => true,
+        Compared::High => true,
+    }
+}
+
+fn satisfies(h: How, x: Compared) -> bool
+    ensures { λ r. ⌜ r ≡ satisfies h x ⌝ }
+{
+    match h {
+        How::IfEqual => if_equal(x),
+        How::IfHigh => if_high(x),
+        How::IfEqualOrHigh => if_equal_or_high(x),
+    }
+}
+
+// Whether a search over a field of n bytes is satisfied.
+fn found(h: How, x: Compared, n: u16) -> bool
+    ensures { λ r. ⌜ r ≡ found h x n ⌝ }
+{
+    if n == 0 {
+        return false;
+    }
+    satisfies(h, x)
+}
+
+fn equal_only(h: How) -> bool
+    ensures { λ r. ⌜ r ≡ equalOnly h ⌝ }
+{
+    match h {
+        How::IfEqual => true,
+        How::IfHigh => false,
+        How::IfEqualOrHigh => false,
+    }
+}
+
+// Whether it was equal over the whole field, so many bytes being sent.
+fn wholly(h: How, x: Compared, n: u16, sent: usize) -> bool
+    ensures { λ r. ⌜ r ≡ both (equalOnly h) (both (leb n sent) (found h x n)) ⌝ }
+{
+    if !equal_only(h) {
+        return false;
+    }
+    if sent < n as usize {
+        return false;
+    }
+    found(h, x, n)
+}
+
+fn end_by(satisfied: bool) -> Ending
+    ensures { λ r. ⌜ r ≡ pick satisfied Satisfied Normal ⌝ }
+{
+    if satisfied {
+        return Ending::Satisfied;
+    }
+    Ending::Normal
+}
+
+fn lesser(a: usize, b: usize) -> usize
+    ensures { λ r. ⌜ r ≡ min a b ⌝ }
+{
+    if a < b {
+        return a;
+    }
+    b
+}
+
+// How far the field lies behind the first cell of its record: a key behind the count area, an ID behind the flag.
+fn behind(key: bool) -> u16
+    ensures { λ r. ⌜ r ≡ pick key countCells flagBytes ⌝ }
+{
+    if key {
+        return COUNT;
+    }
+    FLAG
+}
+
+// The first cell of the field.
+fn field_first(names: Names, place: u16) -> usize
+    ensures { λ r. ⌜ r ≡ fieldFirst names place ⌝ }
+{
+    match names {
+        Names::Nothing => 0,
+        Names::HomeAddress => FLAG as usize,
+        Names::Count(key, _) => place as usize + behind(key) as usize,
+    }
+}
+
+// How many bytes the key or the ID has.
+fn record_length(key: bool, n: Counts) -> u16
+    ensures { λ r. ⌜ r ≡ pick key (n .kl) idBytes ⌝ }
+{
+    if key {
+        return n.kl as u16;
+    }
+    ID
+}
+
+// How many bytes the field has.
+fn field_length(names: Names, n: Counts) -> u16
+    ensures { λ r. ⌜ r ≡ fieldLength names n ⌝ }
+{
+    match names {
+        Names::Nothing => 0,
+        Names::HomeAddress => HOME,
+        Names::Count(key, _) => record_length(key, n),
+    }
+}
+
+// A field of n bytes on the track, from a cell on, against the bytes sent: as many bytes as both have.
+fn compare_field(track: &[u16], first: usize, n: usize, sent: &[u8]) -> Compared
+    requires { ⌜ first + n ≤ length (now track) ⌝ }
+    ensures { λ r. ⌜ r ≡ comparison (bytesOf (part (now (track .entry)) first n)) (now (sent .entry)) ⌝ }
+{
+    let m = lesser(sent.len(), n);
+    compare::compare(track, first, sent, 0, m)
+}
+
+// What a search tells that has read its field.
+pub fn search(h: How, j: Job, sent: &[u8], track: &[u16]) -> Told
+    requires { ⌜ Sighted (alone (now track)) j ⌝ }
+    ensures { λ r. ⌜ r ≡ toldOf (compares h (sight (alone (now (track .entry))) j (now (sent .entry)))) ⌝ }
+{
+    let rule = j.rule;
+    let names = rule.names;
+    let n = field_length(names, j.counts);
+    let first = field_first(names, j.task.place);
+    let x = compare_field(track, first, n as usize, sent);
+    let whole = wholly(h, x, n, sent.len());
+    let end = end_by(found(h, x, n));
+    ending::ended(j, end, Moving::Takes(n as u32), whole)
+}

@@ -1,0 +1,2 @@
+-- Laws of what a command reads.
+pub mod Laws

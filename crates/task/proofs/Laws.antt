@@ -1,0 +1,63 @@
+-- A record that is selected, or come to, lies on the track; what a command does with the record selected.
+use Prim.Native.Nat.{ℕ, _≤_}
+use mathlib.Core.Path.{_≡_, sym, ap, _∙_, subst}
+use mathlib.Core.Bool.{Bool, true, false}
+use mathlib.Core.List.{List}
+use native.Mathlib.Omega.{arith}
+use Rattle.cells.specs.Cells.{trackCells, marks}
+use Rattle.hunt.specs.declared.Spot.{Spot}
+use Rattle.hunt.specs.declared.Next.{Next}
+use Rattle.hunt.specs.declared.Next.the-variants as Next
+use Rattle.hunt.specs.Hunt.{Whole, countFirst, spacedTo}
+use Rattle.hunt.proofs.Inside.{NextOn, next-in, spot-in}
+use Rattle.held.specs.declared.Selection.{Selection}
+use Rattle.held.specs.declared.Selection.the-variants.{Nothing, On}
+use Rattle.held.specs.declared.Stands.{Stands}
+use Rattle.held.specs.declared.Orders.{Orders}
+use Rattle.pack.specs.declared.Head.{Head}
+use Rattle.plan.specs.Plan.{SelectedOn, selectedOr}
+use Rattle.table.specs.declared.Rule.{Rule}
+use Rattle.command.specs.declared.Plan.{Plan}
+use Rattle.command.specs.Command.{Marks, onRecord, onSelected, toNext, toServed}
+
+pub come-to : (x : Next) (spot : Spot) (n : ℕ) → x ≡ Next.Stands spot n → spacedTo x ≤ trackCells → countFirst spot ≤ trackCells
+unfolding spacedTo
+come-to x spot n e h = subst (λ (y : Next). spacedTo y ≤ trackCells) e h
+
+pub selected : (x : Selection) (spot : Spot) → x ≡ On spot → spacedTo (selectedOr x Next.NoMarker) ≤ trackCells → countFirst spot ≤ trackCells
+unfolding spacedTo selectedOr
+selected x spot e h = subst (λ (y : Selection). spacedTo (selectedOr y Next.NoMarker) ≤ trackCells) e h
+
+module _ (t : List ℕ) (w : Whole t) where
+  pub next-place : (x y : Next) → x ≡ y → NextOn (marks t) y → spacedTo x ≤ trackCells
+  next-place x y e h = next-in t w x (subst (NextOn (marks t)) (sym e) h)
+
+  pub selected-place : (x : Selection) → SelectedOn (marks t) x → spacedTo (selectedOr x Next.NoMarker) ≤ trackCells
+  unfolding SelectedOn selectedOr spacedTo
+  selected-place Nothing h = omega arith
+  selected-place (On spot) h = spot-in t w spot h
+
+  pub selected-on : (x : Selection) (spot : Spot) → x ≡ On spot → SelectedOn (marks t) x → countFirst spot ≤ trackCells
+  selected-on x spot e h = selected x spot e (selected-place x h)
+
+module _ (r : Rule) (o : Orders) (h : Head) (x : Selection) (other p : Plan) where
+  pub on-one : (spot : Spot) → x ≡ On spot → p ≡ onRecord r o h spot 0 → p ≡ onSelected r o h x other
+  unfolding onSelected
+  on-one spot e f = f ∙ ap (λ (y : Selection). onSelected r o h y other) (sym e)
+
+  pub on-none : x ≡ Nothing → p ≡ other → p ≡ onSelected r o h x other
+  unfolding onSelected
+  on-none e f = f ∙ ap (λ (y : Selection). onSelected r o h y other) (sym e)
+
+module _ (r : Rule) (m : Marks) (s : Stands) (o : Orders) (serves : Bool) (p : Plan) where
+  pub served-one : (spot : Spot) → serves ≡ true → o .selection ≡ On spot → p ≡ onRecord r o (s .head) spot 0 → p ≡ toServed r m s o serves
+  unfolding toServed
+  served-one spot e q f = on-one r o (s .head) (o .selection) (toNext r m s o) p spot q f ∙ ap (toServed r m s o) (sym e)
+
+  pub served-none : serves ≡ true → o .selection ≡ Nothing → p ≡ toNext r m s o → p ≡ toServed r m s o serves
+  unfolding toServed
+  served-none e q f = on-none r o (s .head) (o .selection) (toNext r m s o) p q f ∙ ap (toServed r m s o) (sym e)
+
+  pub unserved : serves ≡ false → p ≡ toNext r m s o → p ≡ toServed r m s o serves
+  unfolding toServed
+  unserved e f = f ∙ ap (toServed r m s o) (sym e)

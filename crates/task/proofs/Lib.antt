@@ -1,0 +1,2 @@
+-- Laws of where a command works.
+pub mod Laws
