@@ -1,1 +1,195 @@
-// A chain.
+// A chain: one command word after another.
+use held::Channel;
+use held::Held;
+use held::Orders;
+use held::Selection;
+use pack::Shape;
+use words::Cause;
+use words::Tested;
+use words::Word;
+ghost use mathlib.Core.Path.{_≡_};
+ghost use mathlib.Core.List.{List};
+ghost use mathlib.Core.Bool.{true, false};
+ghost use Prim.Native.Nat.{ℕ, _<_, _≤_};
+ghost use lib.ListN.{length};
+ghost use Rattle.words.specs.Words.{Reaches, tested};
+ghost use Rattle.chain.specs.Step.{world, jumped, stops, obeyed, step, run};
+ghost use Rattle.chain.specs.Legal.{leastStorage, keys, Legal};
+ghost use Rattle.chain.specs.Stroke.{passes, passing, passed, Passed};
+
+const TRACK_CELLS: usize = 4096;
+
+const NO_OP: u8 = 0x03;
+
+// The flag that chains commands.
+const CHAINS: u8 = 64;
+
+const WORD_BYTES: u32 = 8;
+
+// A command has its turn on the track under the head, whose cells are lent on.
+fn command(g: Shape, h: Held, w: Word, storage: &mut [u8], cells: &mut [u16]) -> Held
+    requires { ⌜ Legal g (world h (now storage) (now cells)) × Reaches (now storage) w ⌝ }
+    ensures { λ r. ⌜ world r (now (storage .exit)) (now (cells .exit)) ≡ obeyed g (world h (now (storage .entry)) (now (cells .entry))) w ⌝ }
+{
+    let stands = h.stands;
+    let cylinder = stands.cylinder;
+    let head = stands.head;
+    let start = pack::start_of(g, cylinder, head);
+    channel::obey(
+        g,
+        h,
+        w,
+        storage,
+        &mut cells[start..start + TRACK_CELLS],
+    )
+}
+
+// A TIC.
+fn jump(h: Held, a: u32) -> Held
+    ensures { λ r. ⌜ r ≡ jumped h a ⌝ }
+{
+    let stands = h.stands;
+    let orders = h.orders;
+    let channel = Channel {
+        going: h.channel.going,
+        key: h.channel.key,
+        next: words::advanced(a, 0),
+        after_tic: true,
+    };
+    Held {
+        stands,
+        orders,
+        channel,
+    }
+}
+
+// A program check.
+fn stop(h: Held, cause: Cause, storage: &mut [u8]) -> Held
+    requires { ⌜ (leastStorage ≤ length (now storage)) × (h .channel .key < keys) ⌝ }
+    ensures { λ r. ⌜ ((c : List ℕ) → world r (now (storage .exit)) c ≡ stops (world h (now (storage .entry)) c) cause) ⌝ }
+{
+    let stands = h.stands;
+    let status = words::program_check(h.channel.key, h.channel.next, cause);
+    words::store_status(storage, status);
+    Held::rested(stands)
+}
+
+// One command word.
+pub fn step(g: Shape, h: Held, storage: &mut [u8], cells: &mut [u16]) -> Held
+    requires { ⌜ Legal g (world h (now storage) (now cells)) ⌝ }
+    ensures { λ r. ⌜ world r (now (storage .exit)) (now (cells .exit)) ≡ step g (world h (now (storage .entry)) (now (cells .entry))) ⌝ }
+{
+    match words::test(storage, h.channel.next, h.channel.after_tic) {
+        Tested::Obey(w) => command(g, h, w, storage, cells),
+        Tested::Jump(a) => jump(h, a),
+        Tested::Bad(cause) => stop(h, cause, storage),
+    }
+}
+
+// What is held after some command words, and what is left of the allowance.
+struct Reached {
+    held: Held,
+    left: u16,
+}
+
+// Whether a word is a No-op that chains.
+fn passes(w: Word) -> bool
+    ensures { λ r. ⌜ r ≡ passes w ⌝ }
+{
+    if w.code != NO_OP {
+        return false;
+    }
+    w.flags / CHAINS % 2 == 1
+}
+
+// Whether the word at an address is one.
+fn is_pass(storage: &[u8], at: u32) -> bool
+    ensures { λ r. ⌜ r ≡ passing (tested (now (storage .entry)) at false) ⌝ }
+{
+    match words::test(storage, at, false) {
+        Tested::Obey(w) => passes(w),
+        Tested::Jump(_) => false,
+        Tested::Bad(_) => false,
+    }
+}
+
+fn passed(h: Held, next: u32) -> Held
+    ensures { λ r. ⌜ r ≡ passed h next ⌝ }
+{
+    let stands = h.stands;
+    let orders = Orders {
+        mask: h.orders.mask,
+        mask_set: h.orders.mask_set,
+        before: NO_OP,
+        whole: false,
+        tally: 0,
+        selection: Selection::Nothing,
+    };
+    let channel = Channel {
+        going: h.channel.going,
+        key: h.channel.key,
+        next,
+        after_tic: false,
+    };
+    Held {
+        stands,
+        orders,
+        channel,
+    }
+}
+
+// A run of No-ops that chain, in one stroke: they need no track.
+fn pass(h: Held, storage: &[u8], allowance: u16) -> Reached
+    requires { ⌜ (0 < allowance) × (h .channel .going ≡ true) × (passing (tested (now storage) (h .channel .next) false) ≡ true) ⌝ }
+    ensures { λ r. ⌜ Passed (now (storage .entry)) h allowance (r .held) (r .left) × (r .left < allowance) ⌝ }
+{
+    let mut next = words::advanced(h.channel.next, WORD_BYTES);
+    let mut rest = allowance - 1;
+    while 0 < rest {
+        if !is_pass(storage, next) {
+            return Reached {
+                held: passed(h, next),
+                left: rest,
+            };
+        }
+        next = words::advanced(next, WORD_BYTES);
+        rest -= 1;
+    }
+    Reached {
+        held: passed(h, next),
+        left: rest,
+    }
+}
+
+// The next command word of a chain that is going, or a run of No-ops.
+fn advance(g: Shape, h: Held, storage: &mut [u8], cells: &mut [u16], left: u16) -> Reached
+    requires { ⌜ Legal g (world h (now storage) (now cells)) × (0 < left) × (h .channel .going ≡ true) ⌝ }
+    ensures { λ r. ⌜ (run g left (world h (now (storage .entry)) (now (cells .entry))) ≡ run g (r .left) (world (r .held) (now (storage .exit)) (now (cells .exit)))) × Legal g (world (r .held) (now (storage .exit)) (now (cells .exit))) × (r .left < left) ⌝ }
+{
+    if is_pass(storage, h.channel.next) {
+        return pass(h, storage, left);
+    }
+    let held = step(g, h, storage, cells);
+    Reached {
+        held,
+        left: left - 1,
+    }
+}
+
+// An allowance of command words.
+pub fn run(g: Shape, h: Held, storage: &mut [u8], cells: &mut [u16], allowance: u16) -> Held
+    requires { ⌜ Legal g (world h (now storage) (now cells)) ⌝ }
+    ensures { λ r. ⌜ world r (now (storage .exit)) (now (cells .exit)) ≡ run g allowance (world h (now (storage .entry)) (now (cells .entry))) ⌝ }
+{
+    let mut held = h;
+    let mut left = allowance;
+    while 0 < left {
+        if !held.channel.going {
+            return held;
+        }
+        let reached = advance(g, held, storage, cells, left);
+        held = reached.held;
+        left = reached.left;
+    }
+    held
+}

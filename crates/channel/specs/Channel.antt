@@ -11,6 +11,7 @@ use Rattle.words.specs.declared.Word.{Word}
 use Rattle.words.specs.declared.Status.{Status}
 use Rattle.words.specs.Words.{chains, suppresses}
 use Rattle.words.specs.Status.{stored, statusFor}
+use Rattle.pack.specs.declared.Shape.{Shape}
 use Rattle.held.specs.declared.Channel.{Channel}
 use Rattle.held.specs.declared.Held.{Held}
 use Rattle.held.specs.Held.{rested}
@@ -18,7 +19,8 @@ use Rattle.settle.specs.Settle.{unitStatus, endsWell, stride, onward}
 use Rattle.turn.specs.declared.Moving.{Moving}
 use Rattle.turn.specs.declared.Moving.the-variants as Moving
 use Rattle.turn.specs.declared.Told.{Told}
-use Rattle.turn.specs.Turn.{given, wants, Turn, toldOf, isCheck}
+use Rattle.turn.specs.Turn.{alone, given, wants, Turn, toldOf, isCheck, laid}
+use Rattle.command.specs.Command.{command}
 
 -- ---- bytes: those at a word's address; those given, placed there, as many as its count says
 
@@ -69,3 +71,23 @@ withStatus c w d s = pick (goesOn w d) s (stored s (statusAfter c w d))
 
 unfoldable pub storageAfter : Channel → Word → Turn → List ℕ → List ℕ
 storageAfter c w t s = withStatus c w (toldOf t) (placed s w (given (t .moves)))
+
+-- ---- a word to obey, on the track under the head: what is held then, and what is left of storage and of the track
+
+pub record Served : Type 0 where
+  pub held : Held
+  pub storage : List ℕ
+  pub track : List ℕ
+
+abbrev pub served : Held → List ℕ → List ℕ → Served
+served h s t = record { held = h; storage = s; track = t }
+
+unfoldable pub servedBy : Held → Word → List ℕ → List ℕ → Turn → Served
+servedBy h w s t x = served (heldAfter (h .channel) w (toldOf x)) (storageAfter (h .channel) w x s) (laid (x .lays) t)
+
+-- the turn of its command, with the bytes at its address sent
+unfoldable pub turnOn : Shape → Held → Word → List ℕ → List ℕ → Turn
+turnOn g h w s t = command g (alone t) (h .stands) (h .orders) (w .code) (fetched s w)
+
+unfoldable pub serves : Shape → Held → Word → List ℕ → List ℕ → Served
+serves g h w s t = servedBy h w s t (turnOn g h w s t)

@@ -1,7 +1,10 @@
 // The channel about a command.
+use command::Job;
+use command::Ready;
 use held::Channel;
 use held::Held;
 use outcome::Ending;
+use pack::Shape;
 use turn::Moving;
 use turn::Told;
 use words::Status;
@@ -10,9 +13,15 @@ ghost use mathlib.Core.Path.{_≡_};
 ghost use Prim.Native.Nat.{_<_, _≤_};
 ghost use lib.ListN.{length};
 ghost use Rattle.cells.specs.Choice.{pick};
-ghost use Rattle.turn.specs.Turn.{wants, isCheck};
+ghost use Rattle.turn.specs.Turn.{alone, given, wants, toldOf, laid, isCheck};
 ghost use Rattle.settle.specs.Settle.{unitStatus, endsWell, stride, onward};
-ghost use Rattle.channel.specs.Channel.{moved, moves, lengthCounts, wrongLength, goesOn, heldAfter, statusAfter, withStatus};
+ghost use Rattle.cells.specs.Cells.{marks};
+ghost use Rattle.words.specs.Words.{Reaches};
+ghost use Rattle.hunt.specs.Hunt.{Whole};
+ghost use Rattle.plan.specs.Plan.{SelectedOn};
+ghost use Rattle.command.specs.Command.{Sighted};
+ghost use Rattle.channel.specs.Channel.{placed, moved, moves, lengthCounts, wrongLength, goesOn, heldAfter, statusAfter, withStatus, turnOn, served, serves};
+ghost use Rattle.channel.specs.Inside.{jobTurn, Takes, Asked, Turned, Serves};
 
 // Flags of a command word: go on to the next, and incorrect length is none.
 const CHAINS: u8 = 0x40;
@@ -181,7 +190,7 @@ fn status_after(c: Channel, w: Word, d: Told) -> Status
 }
 
 // The end of a command: the chain goes on, or its status word is stored and it is at its end.
-pub fn settle(c: Channel, w: Word, d: Told, storage: &mut [u8]) -> Held
+fn settle(c: Channel, w: Word, d: Told, storage: &mut [u8]) -> Held
     requires { ⌜ (72 ≤ length (now storage)) × (c .key < 16) ⌝ }
     ensures { λ r. ⌜ (r ≡ heldAfter c w d) × (now (storage .exit) ≡ withStatus c w d (now (storage .entry))) ⌝ }
 {
@@ -198,4 +207,91 @@ pub fn settle(c: Channel, w: Word, d: Told, storage: &mut [u8]) -> Held
     }
     words::store_status(storage, status_after(c, w, d));
     Held::rested(stands)
+}
+
+// What a job tells of the bytes at a word's address.
+fn ask(g: Shape, j: Job, w: Word, storage: &[u8], track: &[u16]) -> Told
+    requires { ⌜ Reaches (now storage) w × Whole (now track) × Sighted (alone (now track)) j ⌝ }
+    ensures { λ r. ⌜ r ≡ toldOf (jobTurn g j w (now (storage .entry)) (now (track .entry))) ⌝ }
+{
+    let at = w.address as usize;
+    let end = at + w.count as usize;
+    unit::ask(g, j, &storage[at..end], track)
+}
+
+// The bytes that a job gives, placed at a word's address.
+fn place(j: Job, w: Word, storage: &mut [u8], track: &[u16])
+    requires { ⌜ Reaches (now storage) w × Sighted (alone (now track)) j ⌝ }
+    ensures { λ _. ⌜ ((g : Shape) → now (storage .exit) ≡ placed (now (storage .entry)) w (given (jobTurn g j w (now (storage .entry)) (now (track .entry)) .moves))) ⌝ }
+{
+    let at = w.address as usize;
+    let end = at + w.count as usize;
+    unit::give(j, track, 0, &mut storage[at..end]);
+}
+
+// The cells that a job lays, of the bytes at a word's address.
+fn lay(j: Job, w: Word, storage: &[u8], track: &mut [u16])
+    requires { ⌜ Reaches (now storage) w × Whole (now track) × Sighted (alone (now track)) j × Takes j w (now storage) (now track) ⌝ }
+    ensures { λ _. ⌜ ((g : Shape) → now (track .exit) ≡ laid (jobTurn g j w (now (storage .entry)) (now (track .entry)) .lays) (now (track .entry))) ⌝ }
+{
+    let at = w.address as usize;
+    let end = at + w.count as usize;
+    unit::lay(j, &storage[at..end], track);
+}
+
+// What is laid, unless the command ends in Unit Check.
+fn take(g: Shape, j: Job, w: Word, d: Told, storage: &[u8], track: &mut [u16])
+    requires { ⌜ Reaches (now storage) w × Whole (now track) × Sighted (alone (now track)) j × Asked g j w (now storage) (now track) d ⌝ }
+    ensures { λ _. ⌜ now (track .exit) ≡ laid (jobTurn g j w (now (storage .entry)) (now (track .entry)) .lays) (now (track .entry)) ⌝ }
+{
+    let e = d.ending;
+    if is_check(e) {
+        return;
+    }
+    lay(j, w, storage, track);
+}
+
+// A job that was asked gives its bytes, or lays what it took.
+fn transfer(g: Shape, j: Job, w: Word, d: Told, storage: &mut [u8], track: &mut [u16])
+    requires { ⌜ Reaches (now storage) w × Whole (now track) × Sighted (alone (now track)) j × Asked g j w (now storage) (now track) d ⌝ }
+    ensures { λ _. ⌜ Turned (jobTurn g j w (now (storage .entry)) (now (track .entry))) w (now (storage .entry)) (now (track .entry)) (now (storage .exit)) (now (track .exit)) d ⌝ }
+{
+    let m = d.moving;
+    match m {
+        Moving::None => {}
+        Moving::Gives(_) => place(j, w, storage, track),
+        Moving::Takes(_) => take(g, j, w, d, storage, track),
+    }
+}
+
+fn act(g: Shape, j: Job, w: Word, storage: &mut [u8], track: &mut [u16]) -> Told
+    requires { ⌜ Reaches (now storage) w × Whole (now track) × Sighted (alone (now track)) j ⌝ }
+    ensures { λ r. ⌜ Turned (jobTurn g j w (now (storage .entry)) (now (track .entry))) w (now (storage .entry)) (now (track .entry)) (now (storage .exit)) (now (track .exit)) r ⌝ }
+{
+    let d = ask(g, j, w, storage, track);
+    transfer(g, j, w, d, storage, track);
+    d
+}
+
+// A command has its turn on a track.
+fn turn(g: Shape, h: Held, w: Word, storage: &mut [u8], track: &mut [u16]) -> Told
+    requires { ⌜ Reaches (now storage) w × Whole (now track) × SelectedOn (marks (now track)) (h .orders .selection) ⌝ }
+    ensures { λ r. ⌜ Turned (turnOn g h w (now (storage .entry)) (now (track .entry))) w (now (storage .entry)) (now (track .entry)) (now (storage .exit)) (now (track .exit)) r ⌝ }
+{
+    let stands = h.stands;
+    let orders = h.orders;
+    match unit::ready(w.code, track, stands, orders) {
+        Ready::Refuses(row) => ending::failed(stands, orders, row),
+        Ready::Acts(j) => act(g, j, w, storage, track),
+    }
+}
+
+// A word to obey: its command has its turn on the track under the head, and the channel ends it.
+pub fn obey(g: Shape, h: Held, w: Word, storage: &mut [u8], track: &mut [u16]) -> Held
+    requires { ⌜ Serves h w (now storage) (now track) ⌝ }
+    ensures { λ r. ⌜ served r (now (storage .exit)) (now (track .exit)) ≡ serves g h w (now (storage .entry)) (now (track .entry)) ⌝ }
+{
+    let d = turn(g, h, w, storage, track);
+    let channel = h.channel;
+    settle(channel, w, d, storage)
 }

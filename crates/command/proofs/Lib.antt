@@ -2,3 +2,4 @@
 pub mod Plans
 pub mod Pieces
 pub mod Moves
+pub mod Comes

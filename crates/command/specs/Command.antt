@@ -216,8 +216,9 @@ sight t j v = record {
   recorded = allRecorded (t (j .task .head)) (goesOver (j .rule .act) (j .task .place) (j .counts));
 }
 
--- all areas that the job names were readable, and its counts are those of the count area
+-- the job's row is its code's, all areas that it names were readable, and its counts are those of the count area
 pub record Sighted (t : Tracks) (j : Job) : Type 0 where
+  pub rule : j .rule ≡ ruleOf (j .code)
   pub sees : gets (j .rule .names) t (j .task .head) (j .task .place) ≡ Sees (j .counts)
 
 -- ---- how it ends

@@ -1,5 +1,46 @@
 // What a host calls: start, and go.
+use held::Channel;
 use held::Held;
+use held::Orders;
+use held::Selection;
+use held::Stands;
+use hunt::Spot;
+use pack::Shape;
+use words::Begun;
+use words::Tested;
+ghost use mathlib.Core.Path.{_≡_};
+ghost use mathlib.Core.List.{List, [], _∷_};
+ghost use Prim.Native.Nat.{ℕ, _≤_};
+ghost use lib.ListN.{length};
+ghost use mathlib.Core.Bool.{false};
+ghost use Rattle.cells.specs.Choice.{pick};
+ghost use Rattle.cells.specs.Cells.{marks};
+ghost use Rattle.words.specs.Words.{begunBy, tested};
+ghost use Rattle.pack.specs.Tracks.{Whole, On, trackAt};
+ghost use Rattle.chain.specs.Step.{world, under};
+ghost use Rattle.hunt.specs.Hunt.{spotFits};
+ghost use Rattle.chain.specs.Legal.{storageFits, standsFit, channelFits, selectionFits, ordersFit, heldFits};
+ghost use Rattle.host.specs.Host.{hears, guardOf, wrongHeld, refusesStart, beginning, firstWord, begins, starts, goes, answerNo};
+
+// Refusal 2's limits, 4's on key, next address, place and tally, and a track's cells.
+const LEAST_STORAGE: usize = 80;
+
+const MOST_STORAGE: usize = 16777216;
+
+const KEYS: u8 = 16;
+
+const ADDRESSES: u32 = 16777216;
+
+const TRACK_CELLS: u16 = 4096;
+
+const MOST_TALLY: u8 = 1;
+
+// The status word's bytes of unit and channel status, and a program check.
+const STATUS_UNIT: usize = 68;
+
+const STATUS_CHANNEL: usize = 69;
+
+const PROGRAM_CHECK: u8 = 0x20;
 
 pub enum Answer {
     ChainEnded,
@@ -24,3 +65,231 @@ pub struct Heard {
     pub held: Held,
 }
 
+// Document 01's number of an answer.
+pub fn number_of(a: Answer) -> u8
+    ensures { λ r. ⌜ r ≡ answerNo a ⌝ }
+{
+    match a {
+        Answer::ChainEnded => 0,
+        Answer::AllowanceUsed => 1,
+        Answer::BadStorage => 2,
+        Answer::BadPack => 3,
+        Answer::BadHeld => 4,
+        Answer::BadStart => 5,
+        Answer::NoChain => 6,
+        Answer::ChainGoing => 7,
+    }
+}
+
+fn storage_fits(n: usize) -> bool
+    ensures { λ r. ⌜ r ≡ storageFits n ⌝ }
+{
+    if n < LEAST_STORAGE {
+        return false;
+    }
+    n <= MOST_STORAGE
+}
+
+fn stands_fit(g: Shape, s: Stands) -> bool
+    ensures { λ r. ⌜ r ≡ standsFit g s ⌝ }
+{
+    if g.cylinders <= s.cylinder.0 as u32 {
+        return false;
+    }
+    if g.heads <= s.head.0 as u32 {
+        return false;
+    }
+    s.place <= TRACK_CELLS
+}
+
+fn channel_fits(c: Channel) -> bool
+    ensures { λ r. ⌜ r ≡ channelFits c ⌝ }
+{
+    if KEYS <= c.key {
+        return false;
+    }
+    c.next < ADDRESSES
+}
+
+fn selection_fits(track: &[u16], o: Orders, x: Selection) -> bool
+    ensures { λ r. ⌜ r ≡ selectionFits (marks (now (track .entry))) o x ⌝ }
+{
+    match x {
+        Selection::Nothing => !table::rule_of(o.before).selects,
+        Selection::On(spot) => spot_fits(track, spot),
+    }
+}
+
+fn spot_fits(track: &[u16], spot: Spot) -> bool
+    ensures { λ r. ⌜ r ≡ spotFits (marks (now (track .entry))) spot ⌝ }
+{
+    match spot {
+        Spot::Zero => true,
+        Spot::Marker(p) => hunt::is_marker(track, p),
+    }
+}
+
+fn orders_fit(track: &[u16], o: Orders) -> bool
+    ensures { λ r. ⌜ r ≡ ordersFit (marks (now (track .entry))) o ⌝ }
+{
+    if !mask::is_legal(o.mask) {
+        return false;
+    }
+    if MOST_TALLY < o.tally {
+        return false;
+    }
+    let selection = o.selection;
+    selection_fits(track, o, selection)
+}
+
+// Refusal 4. It looks at one track at most.
+fn held_fits(g: Shape, h: Held, cells: &[u16]) -> bool
+    requires { ⌜ Whole g (now cells) ⌝ }
+    ensures { λ r. ⌜ ((s : List ℕ) → r ≡ heldFits g (world h s (now (cells .entry)))) ⌝ }
+{
+    let stands = h.stands;
+    if !stands_fit(g, stands) {
+        return false;
+    }
+    let channel = h.channel;
+    if !channel_fits(channel) {
+        return false;
+    }
+    let orders = h.orders;
+    let cylinder = stands.cylinder;
+    let head = stands.head;
+    let start = pack::start_of(g, cylinder, head);
+    orders_fit(&cells[start..start + TRACK_CELLS as usize], orders)
+}
+
+// What bytes that encode no held state are answered: 4, after 2 and 3.
+pub fn wrong_held(g: Shape, storage: usize, count: usize) -> Answer
+    ensures { λ r. ⌜ r ≡ wrongHeld g storage count ⌝ }
+{
+    if !storage_fits(storage) {
+        return Answer::BadStorage;
+    }
+    if !pack::pack_fits(g, count) {
+        return Answer::BadPack;
+    }
+    Answer::BadHeld
+}
+
+// Refusals 2, 3 and 4, in order.
+fn guard(g: Shape, h: Held, storage: &[u8], cells: &[u16]) -> Guarded
+    ensures { λ r. ⌜ r ≡ guardOf g (world h (now (storage .entry)) (now (cells .entry))) ⌝ }
+{
+    if !storage_fits(storage.len()) {
+        return Guarded::Answers(Answer::BadStorage);
+    }
+    if !pack::pack_fits(g, cells.len()) {
+        return Guarded::Answers(Answer::BadPack);
+    }
+    if !held_fits(g, h, cells) {
+        return Guarded::Answers(Answer::BadHeld);
+    }
+    Guarded::Passes
+}
+
+// Answer 5.
+fn refuse(h: Held, storage: &mut [u8]) -> Heard
+    requires { ⌜ 80 ≤ length (now storage) ⌝ }
+    ensures { λ r. ⌜ ((c : List ℕ) → hears (r .answer) (world (r .held) (now (storage .exit)) c) ≡ refusesStart (world h (now (storage .entry)) c)) ⌝ }
+{
+    storage[STATUS_UNIT] = 0x00;
+    storage[STATUS_CHANNEL] = PROGRAM_CHECK;
+    Heard {
+        answer: Answer::BadStart,
+        held: h,
+    }
+}
+
+fn begun(h: Held, key: u8, next: u32) -> Held
+    ensures { λ r. ⌜ r ≡ beginning h key next ⌝ }
+{
+    let stands = h.stands;
+    let clean = Held::fresh();
+    let orders = clean.orders;
+    let channel = Channel {
+        going: true,
+        key,
+        next,
+        after_tic: false,
+    };
+    Held {
+        stands,
+        orders,
+        channel,
+    }
+}
+
+fn first_word(h: Held, key: u8, next: u32, storage: &mut [u8]) -> Heard
+    requires { ⌜ 80 ≤ length (now storage) ⌝ }
+    ensures { λ r. ⌜ ((c : List ℕ) → hears (r .answer) (world (r .held) (now (storage .exit)) c) ≡ firstWord (world h (now (storage .entry)) c) key next (tested (now (storage .entry)) next false)) ⌝ }
+{
+    match words::test(storage, next, false) {
+        Tested::Obey(_) => Heard {
+            answer: Answer::AllowanceUsed,
+            held: begun(h, key, next),
+        },
+        Tested::Jump(_) => refuse(h, storage),
+        Tested::Bad(_) => refuse(h, storage),
+    }
+}
+
+fn begin(h: Held, storage: &mut [u8]) -> Heard
+    requires { ⌜ 80 ≤ length (now storage) ⌝ }
+    ensures { λ r. ⌜ ((c : List ℕ) → hears (r .answer) (world (r .held) (now (storage .exit)) c) ≡ begins (world h (now (storage .entry)) c) (begunBy (now (storage .entry)))) ⌝ }
+{
+    match words::address_word(storage) {
+        Begun::Begins { key, first } => first_word(h, key, words::advanced(first, 0), storage),
+        Begun::Refused => refuse(h, storage),
+    }
+}
+
+// Starts a chain: its first word is tested, and nothing runs.
+pub fn start(g: Shape, h: Held, storage: &mut [u8], cells: &[u16]) -> Heard
+    ensures { λ r. ⌜ hears (r .answer) (world (r .held) (now (storage .exit)) (now (cells .entry))) ≡ starts g (world h (now (storage .entry)) (now (cells .entry))) ⌝ }
+{
+    if let Guarded::Answers(a) = guard(g, h, storage, cells) {
+        return Heard { answer: a, held: h };
+    }
+    if h.channel.going {
+        return Heard {
+            answer: Answer::ChainGoing,
+            held: h,
+        };
+    }
+    begin(h, storage)
+}
+
+fn told(h: Held) -> Heard
+    ensures { λ r. ⌜ (r .answer ≡ pick (h .channel .going) Answer.AllowanceUsed Answer.ChainEnded) × (r .held ≡ h) ⌝ }
+{
+    if h.channel.going {
+        return Heard {
+            answer: Answer::AllowanceUsed,
+            held: h,
+        };
+    }
+    Heard {
+        answer: Answer::ChainEnded,
+        held: h,
+    }
+}
+
+// Goes on with a chain, for at most so many command words.
+pub fn go(g: Shape, h: Held, storage: &mut [u8], cells: &mut [u16], allowance: u16) -> Heard
+    ensures { λ r. ⌜ hears (r .answer) (world (r .held) (now (storage .exit)) (now (cells .exit))) ≡ goes g allowance (world h (now (storage .entry)) (now (cells .entry))) ⌝ }
+{
+    if let Guarded::Answers(a) = guard(g, h, storage, cells) {
+        return Heard { answer: a, held: h };
+    }
+    if !h.channel.going {
+        return Heard {
+            answer: Answer::NoChain,
+            held: h,
+        };
+    }
+    told(chain::run(g, h, storage, cells, allowance))
+}

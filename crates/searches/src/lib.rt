@@ -24,10 +24,12 @@ ghost use Rattle.searches.specs.Field.{fieldFirst, fieldLength};
 
 // Cells of a flag, and of a count area with its check.
 const FLAG: u16 = 1;
+
 const COUNT: u16 = 11;
 
 // Bytes of the home address behind its flag, and of an ID.
 const HOME: u16 = 4;
+
 const ID: u16 = 5;
 
 fn if_equal(x: Compared) -> bool

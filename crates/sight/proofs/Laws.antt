@@ -50,6 +50,18 @@ gets-on Names.Nothing t h c = refl
 gets-on Names.HomeAddress t h c = gets-home t h c ∙ sym (gets-home (alone (t h)) h c)
 gets-on (Names.Count key body) t h c = gets-record key body t h c ∙ sym (gets-record key body (alone (t h)) h c)
 
+pub areas-on : (n : Names) (t : Tracks) (h : Head) (c : ℕ) → areasOf n t h c ≡ areasOf n (alone (t h)) h c
+unfolding areasOf
+areas-on Names.Nothing t h c = refl
+areas-on Names.HomeAddress t h c = refl
+areas-on (Names.Count key body) t h c = refl
+
+pub saw-alone : (n : Names) (t : Tracks) (h : Head) (c : ℕ) → saw t (areasOf n t h c) ≡ saw (alone (t h)) (areasOf n (alone (t h)) h c)
+unfolding areasOf saw
+saw-alone Names.Nothing t h c = refl
+saw-alone Names.HomeAddress t h c = saw-on t h _ ∙ sym (saw-on (alone (t h)) h _)
+saw-alone (Names.Count key body) t h c = saw-on t h _ ∙ sym (saw-on (alone (t h)) h _)
+
 -- ---- an area before what else is got
 
 module _ (t : Tracks) (h : Head) (a : Area) (x : Got) where

@@ -1,10 +1,12 @@
--- A record that is selected, or come to, lies on the track; what a command does with the record selected.
+-- A record that is selected, or come to, lies on the track; what a command does with the record selected; it sees one track.
 use Prim.Native.Nat.{ℕ, _≤_}
-use mathlib.Core.Path.{_≡_, sym, ap, _∙_, subst}
+use mathlib.Core.Path.{_≡_, refl, sym, ap, _∙_, subst}
 use mathlib.Core.Bool.{Bool, true, false}
 use mathlib.Core.List.{List}
 use native.Mathlib.Omega.{arith}
+use Rattle.cells.specs.Choice.{pick}
 use Rattle.cells.specs.Cells.{trackCells, marks}
+use Rattle.rows.specs.declared.Row.the-variants as Row
 use Rattle.hunt.specs.declared.Spot.{Spot}
 use Rattle.hunt.specs.declared.Next.{Next}
 use Rattle.hunt.specs.declared.Next.the-variants as Next
@@ -16,9 +18,13 @@ use Rattle.held.specs.declared.Stands.{Stands}
 use Rattle.held.specs.declared.Orders.{Orders}
 use Rattle.pack.specs.declared.Head.{Head}
 use Rattle.plan.specs.Plan.{SelectedOn, selectedOr}
+use Rattle.table.specs.declared.Aim.{Aim}
+use Rattle.table.specs.declared.Aim.the-variants as Aim
 use Rattle.table.specs.declared.Rule.{Rule}
+use Rattle.turn.specs.Turn.{Tracks, alone}
 use Rattle.command.specs.declared.Plan.{Plan}
-use Rattle.command.specs.Command.{Marks, onRecord, onSelected, toNext, toServed}
+use Rattle.command.specs.declared.Plan.the-variants.{Refuses}
+use Rattle.command.specs.Command.{Marks, marksOf, licensed, onRecord, onSelected, toNext, toServed, aimed, unlessBarred, plans}
 
 pub come-to : (x : Next) (spot : Spot) (n : ℕ) → x ≡ Next.Stands spot n → spacedTo x ≤ trackCells → countFirst spot ≤ trackCells
 unfolding spacedTo
@@ -61,3 +67,21 @@ module _ (r : Rule) (m : Marks) (s : Stands) (o : Orders) (serves : Bool) (p : P
   pub unserved : serves ≡ false → p ≡ toNext r m s o → p ≡ toServed r m s o serves
   unfolding toServed
   unserved e f = f ∙ ap (toServed r m s o) (sym e)
+
+-- ---- of the cylinder only the track under the head is seen
+
+aimed-on : (r : Rule) (t : Tracks) (s : Stands) (o : Orders) (a : Aim) → aimed r (marksOf t) s o a ≡ aimed r (marksOf (alone (t (s .head)))) s o a
+unfolding aimed toServed toNext marksOf
+aimed-on r t s o Aim.Stays = refl
+aimed-on r t s o Aim.HomeAddress = refl
+aimed-on r t s o Aim.R0 = refl
+aimed-on r t s o Aim.NextId = refl
+aimed-on r t s o Aim.Next = refl
+aimed-on r t s o Aim.NextForData = refl
+aimed-on r t s o Aim.NextForKey = refl
+aimed-on r t s o Aim.Selected = refl
+
+pub plans-on : (r : Rule) (t : Tracks) (s : Stands) (o : Orders) → plans r (marksOf t) s o ≡ plans r (marksOf (alone (t (s .head)))) s o
+unfolding plans
+plans-on r t s o =
+    ap (λ (x : Plan). pick (licensed (r .licence) o) (unlessBarred (r .bar) (o .mask) x) (Refuses Row.WrongBefore)) (aimed-on r t s o (r .aim))

@@ -1,2 +1,3 @@
 -- Laws of where a command works.
 pub mod Laws
+pub mod Records

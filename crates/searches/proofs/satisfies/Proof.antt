@@ -4,24 +4,6 @@ use borrow.Author.Needs.{needs}
 use Rattle.searches.proofs.satisfies.Statement.{statement}
 use Rattle.searches.proofs.satisfies.Tie as tie
 
-enum-told : tie.Need-enum-told
-enum-told c = search needs
-
-if-equal-requires : tie.Need-if-equal-requires
-if-equal-requires c κs = search needs
-
-enum-told-2 : tie.Need-enum-told-2
-enum-told-2 c = search needs
-
-if-high-requires : tie.Need-if-high-requires
-if-high-requires c κs = search needs
-
-enum-told-3 : tie.Need-enum-told-3
-enum-told-3 c = search needs
-
-if-equal-or-high-requires : tie.Need-if-equal-or-high-requires
-if-equal-or-high-requires c κs = search needs
-
 returns : tie.Need-returns
 unfolding satisfies
 returns c = rw (c .before .enum-told .given .1) (c .if-equal .ensures)
@@ -38,12 +20,12 @@ pub satisfies-spec : {M : Type 1} → statement M
 satisfies-spec =
     tie.close
     (tie.spec
-    enum-told
-    if-equal-requires
-    enum-told-2
-    if-high-requires
-    enum-told-3
-    if-equal-or-high-requires
+    (λ c. search needs)
+    (λ c κs. search needs)
+    (λ c. search needs)
+    (λ c κs. search needs)
+    (λ c. search needs)
+    (λ c κs. search needs)
     returns
     returns-2
     returns-3)

@@ -1,0 +1,46 @@
+-- What the functions inside the crate promise one another. No rule of document 01's.
+use Prim.Native.Nat.{ℕ, _+_, _<_, _≤_}
+use mathlib.Core.Path.{_≡_}
+use mathlib.Core.Bool.{false}
+use mathlib.Core.List.{List}
+use lib.ListN.{length}
+use Rattle.cells.specs.Cells.{marks}
+use Rattle.words.specs.declared.Word.{Word}
+use Rattle.words.specs.Words.{wordBytes, Reaches}
+use Rattle.words.specs.Status.{statusAt}
+use Rattle.hunt.specs.Hunt.{Whole}
+use Rattle.pack.specs.declared.Shape.{Shape}
+use Rattle.held.specs.declared.Held.{Held}
+use Rattle.plan.specs.Plan.{SelectedOn}
+use Rattle.turn.specs.declared.Told.{Told}
+use Rattle.turn.specs.Turn.{alone, given, Turn, toldOf, laid, isCheck}
+use Rattle.command.specs.declared.Job.{Job}
+use Rattle.command.specs.Command.{sight, acts}
+use Rattle.channel.specs.Channel.{fetched, placed}
+
+-- the turn of a job, with the bytes at a word's address sent
+unfoldable pub jobTurn : Shape → Job → Word → List ℕ → List ℕ → Turn
+jobTurn g j w s t = acts g (j .rule .act) (sight (alone t) j (fetched s w))
+
+-- it does not end in Unit Check
+pub record Takes (j : Job) (w : Word) (s t : List ℕ) : Type 0 where
+  pub shape : Shape
+  pub ends : isCheck (jobTurn shape j w s t .ending) ≡ false
+
+-- this was told of it
+pub record Asked (g : Shape) (j : Job) (w : Word) (s t : List ℕ) (d : Told) : Type 0 where
+  pub told : d ≡ toldOf (jobTurn g j w s t)
+
+-- a turn was told, its bytes were placed, and its cells were laid
+pub record Turned (x : Turn) (w : Word) (s t s′ t′ : List ℕ) (d : Told) : Type 0 where
+  pub told : d ≡ toldOf x
+  pub storage : s′ ≡ placed s w (given (x .moves))
+  pub track : t′ ≡ laid (x .lays) t
+
+-- what the channel needs of storage, the word and the track to obey it
+pub record Serves (h : Held) (w : Word) (s t : List ℕ) : Type 0 where
+  pub room : statusAt + wordBytes ≤ length s
+  pub key : h .channel .key < 16
+  pub reaches : Reaches s w
+  pub whole : Whole t
+  pub selected : SelectedOn (marks t) (h .orders .selection)

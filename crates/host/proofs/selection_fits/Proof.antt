@@ -1,0 +1,15 @@
+-- `host::selection_fits` meets its contract, case by case.
+use Rattle.host.proofs.Tells.{none-selected, some-selected}
+use borrow.Author.Needs.{needs}
+use Rattle.host.proofs.selection_fits.Statement.{statement}
+use Rattle.host.proofs.selection_fits.Tie as tie
+
+returns : tie.Need-returns
+returns c = none-selected _ _ _ _ (c .before .enum-told .given .1) (c .rule-of .ensures)
+
+returns-2 : tie.Need-returns-2
+returns-2 c = some-selected _ _ _ _ _ (c .before .before .x .given .1) (c .spot-fits .ensures)
+
+pub selection-fits-spec : {M : Type 1} → statement M
+selection-fits-spec =
+    tie.close (tie.spec (λ c. search needs) (λ c κs. search needs) (λ c. search needs) (λ c κs. search needs) returns returns-2)

@@ -1,0 +1,228 @@
+-- What a read gives, where it lies on the track: all that is named was readable.
+use Prim.Native.Nat.{ℕ, suc, _+_, _*_, _/_, _%_, _<_, _≤_}
+use mathlib.Core.Path.{_≡_, refl, sym, ap, _∙_}
+use mathlib.Core.Bool.{Bool, true, false}
+use mathlib.Core.List.{List, [], _∷_, _++_}
+use native.Mathlib.Omega.{arith}
+use lib.ListN.{length, getD, length-append}
+use Rattle.cells.specs.Choice.{pick}
+use Rattle.cells.specs.Bytes.{part}
+use Rattle.cells.specs.Cells.{byteOf, bytesOf}
+use Rattle.cells.proofs.Laws.{part-cons}
+use Rattle.areas.specs.declared.Area.{Area}
+use Rattle.areas.specs.declared.Counts.{Counts}
+use Rattle.areas.specs.Areas.{readable, areaBytes, rowOf, countsAt}
+use Rattle.areas.proofs.Laws.{counts-are}
+use Rattle.pack.specs.declared.Head.{Head}
+use Rattle.work.specs.declared.Work.the-variants.{Home, Record}
+use Rattle.work.specs.declared.Got.{Got}
+use Rattle.work.specs.declared.Got.the-variants.{Sees, Fails}
+use Rattle.work.specs.Work as Work
+use Rattle.work.specs.Work.{Seen, idOf, sent, sawBy, workReads, countsIn}
+use Rattle.work.proofs.Seen.{count-lies, record-counts, record-key, record-body, key-lies, body-lies, home-seen, home-lies}
+use Rattle.table.specs.declared.Names.{Names}
+use Rattle.table.specs.declared.Names.the-variants as Names
+use Rattle.outcome.specs.declared.Ending.{Ending}
+use Rattle.turn.specs.declared.Moving.the-variants as Moving
+use Rattle.turn.specs.declared.Told.{Told}
+use Rattle.turn.specs.Turn.{Tracks, given, movingOf, filled, toldOf}
+use Rattle.command.specs.declared.Job.{Job}
+use Rattle.command.specs.Command as Command
+use Rattle.command.specs.Command.{liesOn, areasOf, areasRead, sight, Sighted, endsAt, ends, endingOf, offered, gives}
+use Rattle.ending.specs.Ending.{endedAt}
+use Rattle.reads.specs.declared.Rest.{Rest}
+use Rattle.reads.specs.Inside.{LieIf, LieAll, Puts, start, countGiven, keyGiven, bodyGiven, bytesGiven, manyGiven}
+use Rattle.reads.proofs.Laws.{long, all-put, none-put}
+
+-- ---- areas of one head's track
+
+all-one : (t : Tracks) (h : Head) (l : List Area) (x : Got) → Command.allRead t (liesOn h l) x ≡ Work.allRead (t h) l x
+unfolding liesOn Command.allRead Work.allRead
+all-one t h [] x = refl
+all-one t h (a ∷ l) x = ap (λ (y : Got). pick (readable (t h) a) y (Fails (rowOf (a .part)))) (all-one t h l x)
+
+saw-one : (t : Tracks) (h : Head) (l : List Area) → Command.saw t (liesOn h l) ≡ Work.saw (t h) l
+unfolding liesOn Command.saw Work.saw
+saw-one t h [] = refl
+saw-one t h (a ∷ l) = ap (Work.seeing (a .part) (areaBytes (t h) a)) (saw-one t h l)
+
+module _ (t : Tracks) (h : Head) (c : ℕ) where
+  home-got : Command.gets Names.HomeAddress t h c ≡ Work.gets (t h) Home
+  unfolding Command.gets areasOf Command.countsIn Work.gets workReads countsIn
+  home-got = all-one t h _ _
+
+  home-saw : Command.saw t (areasOf Names.HomeAddress t h c) ≡ sawBy (t h) Home
+  unfolding areasOf workReads
+  home-saw = saw-one t h _
+
+  module _ (key body : Bool) where
+    record-got : Command.gets (Names.Count key body) t h c ≡ Work.gets (t h) (Record c key body)
+    unfolding Command.gets areasOf Command.countsIn Work.gets workReads countsIn
+    record-got = all-one t h _ _
+
+    record-saw : Command.saw t (areasOf (Names.Count key body) t h c) ≡ sawBy (t h) (Record c key body)
+    unfolding areasOf workReads
+    record-saw = saw-one t h _
+
+-- ---- a count's 8 bytes are those of its cells but the flag's
+
+module _ (t : List ℕ) (c : ℕ) (h : c + 11 ≤ length t) where
+  abbrev b : ℕ → ℕ
+  b i = byteOf (getD t (c + i) 0)
+
+  pair : ℕ → ℕ
+  pair i = b i * 256 + b (i + 1)
+
+  high : (i : ℕ) → pair i / 256 ≡ b i
+  unfolding pair
+  high i = omega arith
+
+  low : (i : ℕ) → pair i % 256 ≡ b (i + 1)
+  unfolding pair
+  low i = omega arith
+
+  pair-is : (i : ℕ) → pair i ≡ byteOf (getD t (c + i) 0) * 256 + byteOf (getD t (c + i + 1) 0)
+  unfolding pair
+  pair-is i = let e : c + (i + 1) ≡ c + i + 1 = omega arith in ap (λ (k : ℕ). b i * 256 + byteOf (getD t k 0)) e
+
+  cell-next : (i n : ℕ) → i < 11 → bytesOf (part t (c + i) (suc n)) ≡ b i ∷ bytesOf (part t (c + (i + 1)) n)
+  unfolding bytesOf
+  cell-next i n q =
+      let e : suc (c + i) ≡ c + (i + 1) = omega arith in
+      ap bytesOf (part-cons t (c + i) n (omega arith)) ∙ ap (λ (k : ℕ). b i ∷ bytesOf (part t k n)) e
+
+  cells-sent : bytesOf (part t (c + 1) 8) ≡ b 1 ∷ b 2 ∷ b 3 ∷ b 4 ∷ b 5 ∷ b 6 ∷ b 7 ∷ b 8 ∷ []
+  unfolding bytesOf part
+  cells-sent =
+      cell-next 1 7 (omega arith) ∙ ap (λ (l : List ℕ). b 1 ∷ l)
+      (cell-next 2 6 (omega arith) ∙ ap (λ (l : List ℕ). b 2 ∷ l)
+      (cell-next 3 5 (omega arith) ∙ ap (λ (l : List ℕ). b 3 ∷ l)
+      (cell-next 4 4 (omega arith) ∙ ap (λ (l : List ℕ). b 4 ∷ l)
+      (cell-next 5 3 (omega arith) ∙ ap (λ (l : List ℕ). b 5 ∷ l)
+      (cell-next 6 2 (omega arith) ∙ ap (λ (l : List ℕ). b 6 ∷ l)
+      (cell-next 7 1 (omega arith) ∙ ap (λ (l : List ℕ). b 7 ∷ l)
+      (cell-next 8 0 (omega arith))))))))
+
+  sent-at : sent (countsAt t c) ≡ bytesOf (part t (c + 1) 8)
+  unfolding sent idOf
+  sent-at =
+      ap sent (sym (counts-are t c (byteOf (getD t c 0)) (pair 1) (pair 3) (b 5) (b 6) (pair 7) refl (pair-is 1) (pair-is 3) refl refl (pair-is 7)))
+      ∙ (λ i. high 1 i ∷ low 1 i ∷ high 3 i ∷ low 3 i ∷ b 5 ∷ b 6 ∷ high 7 i ∷ low 7 i ∷ [])
+      ∙ sym cells-sent
+
+-- ---- a record's bytes
+
+module _ (t : List ℕ) (c : ℕ) (counted key body : Bool) (n : Counts) (e : Work.gets t (Record c key body) ≡ Sees n) where
+  -- a part that is not named has no bytes
+  picked : (b : Bool) (first m : ℕ) → pick b (bytesOf (part t first m)) [] ≡ bytesOf (part t first (pick b m 0))
+  unfolding bytesOf part
+  picked true first m = refl
+  picked false first m = refl
+
+  lie-if : (b : Bool) (first m : ℕ) → (b ≡ true → 0 < m → first + m ≤ length t) → LieIf t first (pick b m 0)
+  lie-if true first m h = record { ends = h refl }
+  lie-if false first m h = record { ends = λ k. absurd (omega arith) }
+
+  count-is : pick counted (sent n) [] ≡ countGiven t counted c
+  count-is =
+      ap (λ (x : List ℕ). pick counted x [])
+      (ap sent (record-counts t c key body n e) ∙ sent-at t c (count-lies t c key body n e))
+      ∙ picked counted (c + 1) 8
+
+  twice : (b : Bool) (v : List ℕ) → pick b (pick b v []) [] ≡ pick b v []
+  twice true v = refl
+  twice false v = refl
+
+  key-is : pick key (sawBy t (Record c key body) .key) [] ≡ keyGiven t key c n
+  key-is = ap (λ (x : List ℕ). pick key x []) (record-key t c key body n e) ∙ twice key _ ∙ picked key _ (n .kl)
+
+  body-is : pick body (sawBy t (Record c key body) .body) [] ≡ bodyGiven t body c n
+  body-is = ap (λ (x : List ℕ). pick body x []) (record-body t c key body n e) ∙ twice body _ ∙ picked body _ (n .dl)
+
+  record-lies : LieAll t counted key body c n
+  record-lies = record {
+    count = lie-if counted (c + 1) 8 (λ _ _. omega (arith, count-lies t c key body n e));
+    key = lie-if key _ (n .kl) (key-lies t c key body n e);
+    body = lie-if body _ (n .dl) (body-lies t c key body n e);
+  }
+
+-- ---- by what a job names
+
+module _ (t : Tracks) (j : Job) (s : Sighted t j) where
+  abbrev on : List ℕ
+  on = t (j .task .head)
+
+  sees-by : (m : Names) → j .rule .names ≡ m → Command.gets m t (j .task .head) (j .task .place) ≡ Sees (j .counts)
+  sees-by m p = ap (λ (x : Names). Command.gets x t (j .task .head) (j .task .place)) (sym p) ∙ s .sees
+
+  gives-at : (m : Names) → Command.gets m t (j .task .head) (j .task .place) ≡ Sees (j .counts) → (counted : Bool)
+      → offered m counted (j .counts) (Command.saw t (areasOf m t (j .task .head) (j .task .place))) ≡ bytesGiven on counted m (j .task .place) (j .counts)
+  unfolding offered bytesGiven
+  gives-at Names.Nothing e counted = refl
+  gives-at Names.HomeAddress e counted = ap (λ (x : Seen). x .home) (home-saw t (j .task .head) (j .task .place)) ∙ home-seen on
+  gives-at (Names.Count key body) e counted =
+      let c = j .task .place in
+      let n = j .counts in
+      let g : Work.gets on (Record c key body) ≡ Sees n = sym (record-got t (j .task .head) c key body) ∙ e in
+      ap (λ (x : Seen). pick counted (sent n) [] ++ (pick key (x .key) [] ++ pick body (x .body) [])) (record-saw t (j .task .head) c key body)
+      ∙ (λ i. count-is on c counted key body n g i ++ (key-is on c counted key body n g i ++ body-is on c counted key body n g i))
+
+  pub gives-these : (counted : Bool)
+      → offered (j .rule .names) counted (j .counts) (Command.saw t (areasRead t j)) ≡ bytesGiven on counted (j .rule .names) (j .task .place) (j .counts)
+  unfolding areasRead
+  gives-these = gives-at (j .rule .names) (s .sees)
+
+  -- they lie on the track
+  pub home-on : j .rule .names ≡ Names.HomeAddress → LieIf on 0 5
+  home-on p =
+      let g = sym (home-got t (j .task .head) (j .task .place)) ∙ sees-by _ p in
+      record { ends = λ _. omega (arith, home-lies on (j .counts) g) }
+
+  pub record-on : (counted key body : Bool) → j .rule .names ≡ Names.Count key body → LieAll on counted key body (j .task .place) (j .counts)
+  record-on counted key body p =
+      let g = sym (record-got t (j .task .head) (j .task .place) key body) ∙ sees-by _ p in
+      record-lies on (j .task .place) counted key body (j .counts) g
+
+  -- these bytes put into lent ones are those that the read gives
+  module _ (counted : Bool) (v : List ℕ) where
+    given-are : given (gives counted (sight t j v) .moves) ≡ bytesGiven on counted (j .rule .names) (j .task .place) (j .counts)
+    unfolding given gives ends endsAt sight
+    given-are = gives-these counted
+
+    module _ (m : Names) (p : j .rule .names ≡ m) (l : List ℕ) (from : ℕ) where
+      filled-by : filled l from (bytesGiven on counted m (j .task .place) (j .counts)) ≡ filled l from (given (gives counted (sight t j v) .moves))
+      filled-by = ap (λ (x : Names). filled l from (bytesGiven on counted x (j .task .place) (j .counts))) (sym p) ∙ ap (filled l from) (sym given-are)
+
+      pub puts-given : (out : List ℕ) (r x : Rest) → r ≡ start from → Puts l r (bytesGiven on counted m (j .task .place) (j .counts)) out x
+          → out ≡ filled l from (given (gives counted (sight t j v) .moves))
+      puts-given out r x e q = all-put l from _ out r x e q ∙ filled-by
+
+    pub gives-none : j .rule .names ≡ Names.Nothing → (l : List ℕ) (from : ℕ) → l ≡ filled l from (given (gives counted (sight t j v) .moves))
+    unfolding bytesGiven
+    gives-none p l from = none-put l from ∙ filled-by Names.Nothing p l from
+
+-- ---- what the channel is told
+
+module _ (t : List ℕ) (c : ℕ) (counted : Bool) (n : Counts) where
+  record-many : (key body : Bool) → LieAll t counted key body c n
+      → length (bytesGiven t counted (Names.Count key body) c n) ≡ manyGiven counted (Names.Count key body) n
+  unfolding bytesGiven manyGiven
+  record-many key body h =
+      let x = countGiven t counted c in
+      let y = keyGiven t key c n in
+      let z = bodyGiven t body c n in
+      omega (arith, length-append x (y ++ z), length-append y z, long t _ _ (h .count), long t _ _ (h .key), long t _ _ (h .body))
+
+module _ (t : Tracks) (j : Job) (s : Sighted t j) (counted : Bool) where
+  many-are : (m : Names) → j .rule .names ≡ m
+      → length (bytesGiven (t (j .task .head)) counted m (j .task .place) (j .counts)) ≡ manyGiven counted m (j .counts)
+  unfolding bytesGiven manyGiven
+  many-are Names.Nothing p = refl
+  many-are Names.HomeAddress p = long _ 0 5 (home-on t j s p)
+  many-are (Names.Count key body) p = record-many _ _ counted (j .counts) key body (record-on t j s counted key body p)
+
+  pub told-are : (v : List ℕ) (e : Ending) (m : ℕ) (r : Told) → e ≡ endingOf j → m ≡ manyGiven counted (j .rule .names) (j .counts)
+      → r ≡ endedAt j (j .task) e (Moving.Gives m) false → r ≡ toldOf (gives counted (sight t j v))
+  unfolding toldOf movingOf gives ends endsAt sight endedAt
+  told-are v e m r p q u =
+      u ∙ (λ i. endedAt j (j .task) (p i) (Moving.Gives ((q ∙ sym (ap length (gives-these t j s counted) ∙ many-are (j .rule .names) refl)) i)) false)

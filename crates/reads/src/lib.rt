@@ -1,0 +1,163 @@
+// The reads: how they end, and the bytes that they give.
+use areas::Counts;
+use command::Job;
+use outcome::Ending;
+use table::Names;
+use turn::Moving;
+use turn::Told;
+ghost use mathlib.Core.Path.{_≡_};
+ghost use mathlib.Core.List.{List};
+ghost use Prim.Native.Nat.{ℕ, _+_, _≤_, min};
+ghost use lib.ListN.{length};
+ghost use Rattle.cells.specs.Choice.{pick};
+ghost use Rattle.cells.specs.Bytes.{overlay, part};
+ghost use Rattle.cells.specs.Cells.{bytesOf};
+ghost use Rattle.turn.specs.Turn.{Tracks, alone, filled, given, toldOf};
+ghost use Rattle.command.specs.Command.{Sighted, sight, endingOf, gives};
+ghost use Rattle.reads.specs.Inside.{LieIf, LieAll, Puts, recordGiven, manyGiven};
+
+const HOME_BYTES: u16 = 5;
+
+// A count's flag does not move, the bytes behind it do.
+const FLAG: u32 = 1;
+
+const COUNT_SENT: u16 = 8;
+
+// Where the next byte goes, and how many bytes are left out before it.
+struct Rest {
+    at: usize,
+    from: usize,
+}
+
+fn lesser(a: usize, b: usize) -> usize
+    ensures { λ r. ⌜ r ≡ min a b ⌝ }
+{
+    if a < b {
+        return a;
+    }
+    b
+}
+
+// How many bytes of a part move, if it is named.
+fn bytes_if(named: bool, n: u16) -> u16
+    ensures { λ r. ⌜ r ≡ pick named n 0 ⌝ }
+{
+    if named {
+        return n;
+    }
+    0
+}
+
+// The bytes of so many cells of the track.
+fn put_cells(track: &[u16], first: usize, into: &mut [u8], at: usize, m: usize)
+    requires { ⌜ LieIf (now track) first m × (at + m ≤ length (now into)) ⌝ }
+    ensures { λ _. ⌜ now (into .exit) ≡ overlay (now (into .entry)) at (bytesOf (part (now (track .entry)) first m)) ⌝ }
+{
+    let mut i = 0;
+    while i < m {
+        into[at + i] = (track[first + i] % 256) as u8;
+        i += 1;
+    }
+}
+
+// The bytes of so many cells, but those left out, as many as find room.
+fn put(track: &[u16], first: u32, n: u16, r: Rest, into: &mut [u8]) -> Rest
+    requires { ⌜ LieIf (now track) first n × (r .at ≤ length (now into)) ⌝ }
+    ensures { λ x. ⌜ Puts (now (into .entry)) r (bytesOf (part (now (track .entry)) first n)) (now (into .exit)) x ⌝ }
+{
+    let at = r.at;
+    let skip = lesser(r.from, n as usize);
+    let m = lesser(n as usize - skip, into.len() - at);
+    put_cells(track, first as usize + skip, into, at, m);
+    Rest {
+        at: at + m,
+        from: r.from - skip,
+    }
+}
+
+// The bytes of a record: of its count, its key and its data those that are named, all from the track.
+fn put_record(
+    counted: bool,
+    key: bool,
+    body: bool,
+    c: u16,
+    n: Counts,
+    track: &[u16],
+    r: Rest,
+    into: &mut [u8],
+) -> Rest
+    requires { ⌜ LieAll (now track) counted key body c n × (r .at ≤ length (now into)) ⌝ }
+    ensures { λ x. ⌜ Puts (now (into .entry)) r (recordGiven (now (track .entry)) counted key body c n) (now (into .exit)) x ⌝ }
+{
+    let count = put(
+        track,
+        c as u32 + FLAG,
+        bytes_if(counted, COUNT_SENT),
+        r,
+        into,
+    );
+    let keys = areas::key_area(c, n);
+    let keyed = put(track, keys.first, bytes_if(key, n.kl as u16), count, into);
+    let data = areas::data_area(c, n);
+    put(track, data.first, bytes_if(body, n.dl), keyed, into)
+}
+
+// The bytes that a read gives, from one on, as many as find room.
+pub fn give(counted: bool, j: Job, track: &[u16], from: u32, into: &mut [u8])
+    requires { ⌜ Sighted (alone (now track)) j ⌝ }
+    ensures { λ _. ⌜ ((v : List ℕ) → now (into .exit) ≡ filled (now (into .entry)) from (given (gives counted (sight (alone (now (track .entry))) j v) .moves))) ⌝ }
+{
+    let r = Rest {
+        at: 0,
+        from: from as usize,
+    };
+    let rule = j.rule;
+    let names = rule.names;
+    match names {
+        Names::Nothing => {}
+        Names::HomeAddress => {
+            put(track, 0, HOME_BYTES, r, into);
+        }
+        Names::Count(key, body) => {
+            put_record(counted, key, body, j.task.place, j.counts, track, r, into);
+        }
+    }
+}
+
+// How many bytes those are.
+fn many_given(counted: bool, names: Names, n: Counts) -> u32
+    ensures { λ r. ⌜ r ≡ manyGiven counted names n ⌝ }
+{
+    match names {
+        Names::Nothing => 0,
+        Names::HomeAddress => HOME_BYTES as u32,
+        Names::Count(key, body) => {
+            let count = bytes_if(counted, COUNT_SENT) as u32;
+            let keys = bytes_if(key, n.kl as u16) as u32;
+            count + keys + bytes_if(body, n.dl) as u32
+        }
+    }
+}
+
+// DL = 0 is Unit Exception, where the row says so.
+fn ending_of(j: Job) -> Ending
+    ensures { λ r. ⌜ r ≡ endingOf j ⌝ }
+{
+    if j.rule.excepts {
+        if j.counts.dl == 0 {
+            return Ending::Exception;
+        }
+    }
+    Ending::Normal
+}
+
+// A read that has read all that it names.
+pub fn read(counted: bool, j: Job) -> Told
+    ensures { λ r. ⌜ ((t : Tracks) (v : List ℕ) → Sighted t j → r ≡ toldOf (gives counted (sight t j v))) ⌝ }
+{
+    let end = ending_of(j);
+    let rule = j.rule;
+    let names = rule.names;
+    let n = many_given(counted, names, j.counts);
+    ending::ended(j, end, Moving::Gives(n), false)
+}

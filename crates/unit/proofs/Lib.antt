@@ -1,0 +1,2 @@
+-- Laws of the unit.
+pub mod Laws

@@ -1,0 +1,2 @@
+-- What the unit asks of its callers.
+pub mod Unit

@@ -1,0 +1,130 @@
+-- Laws of what a write lays: a piece that names all cells to the track's end is a format write; what is laid when the ending is no Unit Check. The areas
+-- that an update goes over lie on the track.
+use Prim.Native.Nat.{ℕ, _+_, _-_, _<_, _≤_}
+use mathlib.Core.Path.{_≡_, refl, sym, ap, _∙_}
+use mathlib.Core.Bool.{Bool, true, false, false≢true}
+use mathlib.Core.List.{List, [], _∷_, _++_, append-assoc, append-nil}
+use native.Mathlib.Omega.{arith}
+use lib.ListN.{length, take, drop, replicate, length-append, length-replicate}
+use lib.Seq.{drop-length}
+use lib.Dec.{ltb}
+use borrow.Author.Tests.{lt-ltb}
+use Rattle.cells.specs.Choice.{pick, both}
+use Rattle.cells.specs.Bytes.{overlay, part, padded}
+use Rattle.cells.specs.Cells.{trackCells}
+use Rattle.cells.proofs.Tests.{first-of, second-of, first-picked}
+use Rattle.rows.specs.declared.Row.{Row}
+use Rattle.rows.specs.declared.Row.the-variants.{Unreadable, NoRoom}
+use Rattle.house_check.specs.Area as House
+use Rattle.areas.specs.declared.Area.{Area}
+use Rattle.areas.specs.declared.Counts.{Counts}
+use Rattle.areas.specs.Areas.{homeBytes, keyArea, dataArea}
+use Rattle.hunt.specs.Hunt.{Whole}
+use Rattle.room.specs.Room.{fits}
+use Rattle.room.proofs.Laws.{fits-ends}
+use Rattle.recording.specs.Recording.{areaWritten}
+use Rattle.work.specs.Work.{areaIf, named}
+use Rattle.laying.specs.Laying.{formatted, recorded}
+use Rattle.laying.proofs.Laws.{formatted-is, length-area, recorded-lies}
+use Rattle.turn.specs.Turn.{Piece, Turn, laid, isCheck, checks}
+use Rattle.command.specs.declared.Task.{Task}
+use Rattle.command.specs.Command.{Sight, allRecorded, fails, ends, endsAt, piece, toEnd, laysHome, laysNew, over, keySent, updates}
+use Rattle.writes.specs.Writes.{goneOver, updated, Over}
+
+-- ---- gaps to the track's end
+
+pub to-end : (t : List ℕ) (at : ℕ) (x : List ℕ) → Whole t → at + length x ≤ trackCells → overlay t at (toEnd at x) ≡ formatted t at x
+unfolding overlay toEnd
+to-end t at x w h =
+    let rest : List ℕ = replicate (4096 - (at + length x)) 0 in
+    let n : at + length (x ++ rest) ≡ length t =
+    omega (arith, w .long, length-append x rest, length-replicate {A = ℕ} (4096 - (at + length x)) 0) in
+    ap (λ (k : ℕ). take at t ++ (x ++ rest) ++ drop k t) n
+    ∙ ap (λ (z : List ℕ). take at t ++ (x ++ rest) ++ z) (drop-length t)
+    ∙ append-nil (take at t ++ (x ++ rest))
+    ∙ sym (append-assoc (take at t) x rest)
+    ∙ ap (λ (k : ℕ). take at t ++ x ++ replicate (k - (at + length x)) 0) (sym (w .long))
+    ∙ sym (formatted-is t at x (omega (arith, w .long)))
+
+-- ---- what is laid, by the model's own choices
+
+no-check : (b : Bool) (y : Turn) (x : Sight) (row : Row) → isCheck (pick b y (fails x row) .ending) ≡ false → b ≡ true
+unfolding fails checks isCheck
+no-check true y x row e = refl
+no-check false y x row e = absurd (false≢true (sym e))
+
+module _ (x : Sight) (t : List ℕ) (w : Whole t) where
+  pub home-lays : formatted t 0 (House.laid (padded homeBytes (x .sent))) ≡ laid (laysHome x .lays) t
+  unfolding laysHome ends endsAt laid piece
+  home-lays = sym (to-end t 0 (House.laid (padded homeBytes (x .sent))) w (omega (arith, length-area homeBytes (x .sent))))
+
+  -- a new record
+  module _ (k : Task) (first : ℕ) (n : Counts) (need : ℕ) (v : List ℕ) where
+    pub new-fits : isCheck (laysNew x k first n need v .ending) ≡ false → fits first need ≡ true
+    unfolding laysNew
+    new-fits e = no-check (fits first need) _ x NoRoom e
+
+    pub new-lays : need ≡ length v → fits first need ≡ true → formatted t first v ≡ laid (laysNew x k first n need v .lays) t
+    unfolding laysNew endsAt laid piece
+    new-lays l e =
+        sym (ap (λ (y : Turn). laid (y .lays) t) (first-picked _ _ _ e) ∙ to-end t first v w (omega (arith, l, fits-ends first need e)))
+
+-- ---- an update
+
+laid-two : (l m : List Piece) (t : List ℕ) → laid (l ++ m) t ≡ laid m (laid l t)
+unfolding laid
+laid-two [] m t = refl
+laid-two (p ∷ l) m t = laid-two l m (overlay t (p .first) (p .cells))
+
+module _ (x : Sight) where
+  over-laid : (a : Area) (from n : ℕ) (t : List ℕ) → goneOver t (a .first) (x .sent) from n ≡ laid (over x a from n) t
+  unfolding goneOver areaWritten over laid piece
+  over-laid a from n t = go (ltb 0 n)
+    where
+      go : (b : Bool) → pick b (overlay t (a .first) (House.laid (padded n (part (x .sent) from n)))) t
+          ≡ laid (pick b (piece x (a .first) (House.laid (padded n (part (x .sent) from n))) ∷ []) []) t
+      go true = refl
+      go false = refl
+
+  module _ (key : Bool) (c : ℕ) (n : Counts) where
+    pub update-recorded : isCheck (updates key x c n .ending) ≡ false → x .recorded ≡ true
+    unfolding updates
+    update-recorded e = no-check (x .recorded) _ x Unreadable e
+
+    pub update-lays : (t : List ℕ) → x .recorded ≡ true → updated t key c n (x .sent) ≡ laid (updates key x c n .lays) t
+    unfolding updates updated ends endsAt
+    update-lays t e =
+        ap (λ (u : List ℕ). goneOver u (dataArea c n .first) (x .sent) (keySent key n) (n .dl)) (over-laid (keyArea c n) 0 (keySent key n) t)
+        ∙ over-laid (dataArea c n) (keySent key n) (n .dl) (laid (over x (keyArea c n) 0 (keySent key n)) t)
+        ∙ sym (laid-two (over x (keyArea c n) 0 (keySent key n)) (over x (dataArea c n) (keySent key n) (n .dl)) t)
+        ∙ sym (ap (λ (y : Turn). laid (y .lays) t) (first-picked _ _ _ e))
+
+-- ---- the areas that an update goes over lie on the track
+
+module _ (t : List ℕ) where
+  first-recorded : (b : Bool) (a : Area) (l : List Area) → allRecorded t (areaIf b a ++ l) ≡ true → (b ≡ true → recorded t a ≡ true) × (allRecorded t l ≡ true)
+  unfolding areaIf allRecorded
+  first-recorded true a l e = (λ q. first-of (recorded t a) _ e, second-of (recorded t a) _ e)
+  first-recorded false a l e = (λ q. absurd (false≢true q), e)
+
+  last-recorded : (b : Bool) (a : Area) → allRecorded t (areaIf b a) ≡ true → b ≡ true → recorded t a ≡ true
+  unfolding areaIf allRecorded
+  last-recorded true a e q = first-of (recorded t a) _ e
+  last-recorded false a e q = absurd (false≢true q)
+
+  key-ends : (key : Bool) (c : ℕ) (n : Counts) → (both key (ltb 0 (n .kl)) ≡ true → recorded t (keyArea c n) ≡ true) → 0 < keySent key n
+      → keyArea c n .first + keySent key n + 2 ≤ length t
+  unfolding keySent keyArea
+  key-ends true c n r h = recorded-lies t (keyArea c n) (r (lt-ltb 0 (n .kl) h))
+  key-ends false c n r h = absurd (omega arith)
+
+  pub recorded-over : (key : Bool) (c : ℕ) (n : Counts) → allRecorded t (named c key true n) ≡ true → Over t key c n
+  unfolding named dataArea
+  recorded-over key c n e =
+      let p = first-recorded (both key (ltb 0 (n .kl))) (keyArea c n) (areaIf (ltb 0 (n .dl)) (dataArea c n)) e in
+      record {
+        keyed = λ h. record { ends = key-ends key c n (p .0) h };
+        body = λ h.
+            let q = recorded-lies t (dataArea c n) (last-recorded (ltb 0 (n .dl)) (dataArea c n) (p .1) (lt-ltb 0 (n .dl) h)) in
+            record { ends = omega (arith, q, h) };
+      }

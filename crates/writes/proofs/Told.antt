@@ -1,0 +1,195 @@
+-- What the channel is told of a write: the code's branches are the model's choices, and the cells that are laid do not show in it.
+use Prim.Native.Nat.{ℕ, _+_, _%_, _≤_}
+use mathlib.Core.Path.{_≡_, refl, sym, ap, ap₂, _∙_}
+use mathlib.Core.Bool.{Bool, true, false}
+use mathlib.Core.List.{List, [], _∷_, _++_}
+use native.Mathlib.Omega.{arith}
+use lib.ListN.{getD}
+use lib.Dec.{ltb, eqb}
+use borrow.Author.Tests.{eq-eqb, ne-eqb}
+use Rattle.cells.specs.Choice.{pick, both}
+use Rattle.cells.proofs.Tests.{first-picked, second-picked}
+use Rattle.rows.specs.declared.Row.the-variants.{Unreadable, NoRoom}
+use Rattle.areas.specs.declared.Area.{Area}
+use Rattle.areas.specs.declared.Counts.{Counts}
+use Rattle.areas.specs.Areas.{keyArea, dataArea, recordCells, endBy, needed}
+use Rattle.areas.specs.Flags.{flagOfZero, flagAfter}
+use Rattle.hunt.specs.declared.Spot.the-variants.{Marker}
+use Rattle.room.specs.Room.{fits}
+use Rattle.room.proofs.Laws.{fits-ends}
+use Rattle.held.specs.declared.Selection.the-variants.{On}
+use Rattle.outcome.specs.declared.Ending.{Ending}
+use Rattle.outcome.specs.declared.Ending.the-variants.{Normal, Exception}
+use Rattle.work.specs.Work.{areaIf, named}
+use Rattle.laying.specs.Laying.{newCounts, recorded}
+use Rattle.table.specs.declared.Write.{Write}
+use Rattle.table.specs.declared.Write.the-variants as Write
+use Rattle.turn.specs.declared.Moving.the-variants as Moving
+use Rattle.turn.specs.declared.Told.{Told}
+use Rattle.turn.specs.Turn.{Piece, Moves, Takes, Turn, alone, movingOf, toldOf}
+use Rattle.command.specs.declared.Task.{Task}
+use Rattle.command.specs.declared.Job.{Job}
+use Rattle.command.specs.Command.{task, allRecorded, Sight, sight, fails, endsAt, ends, endingOf, piece, toEnd, laysHome, recordTakes, laysNew, laysR0, laysRecord, over, keySent, updates, lays}
+use Rattle.ending.specs.Ending.{endedAt, failedAt}
+use Rattle.ending.proofs.Laws.{ended-at, ended, failed-by}
+use Rattle.writes.specs.Writes.{Writes, newTold, r0Told, recordTold, overBy, overTold}
+use Rattle.writes.proofs.Calls.{flag-r0, recorded-is}
+
+-- ---- a new record, by whether it has room
+
+module _ (j : Job) (k : Task) (first need : ℕ) (n : Counts) (v : List ℕ) (b : Bool) (r : Told) (q : b ≡ fits first need) where
+  pub new-fails : b ≡ false → r ≡ failedAt (j .stands) (j .orders) NoRoom → r ≡ newTold j k first n need v
+  unfolding newTold
+  new-fails e f = f ∙ sym (second-picked _ _ _ (sym q ∙ e))
+
+  pub new-ends : (m : ℕ) → b ≡ true → m ≡ recordTakes v n → r ≡ endedAt j k Normal (Moving.Takes m) false → r ≡ newTold j k first n need v
+  unfolding newTold
+  new-ends m e f g = g ∙ ap (λ (i : ℕ). endedAt j k Normal (Moving.Takes i) false) f ∙ sym (first-picked _ _ _ (sym q ∙ e))
+
+module _ (j : Job) (flag : ℕ) (v : List ℕ) (n : Counts) (p : n ≡ newCounts flag v) (need : ℕ) where
+  pub r0-told : (r : Told) → need ≡ recordCells n → r ≡ newTold j (j .task) 7 n need v → r ≡ r0Told j flag v
+  unfolding r0Told
+  r0-told r q f =
+      f ∙ ap (λ (i : ℕ). newTold j (j .task) 7 n i v) q ∙ ap (λ (m : Counts). newTold j (j .task) 7 m (recordCells m) v) p
+
+  -- where it has room its cell lies on the track
+  pub record-begins : (at : ℕ) (b : Bool) → need ≡ needed n → b ≡ fits at need → b ≡ true → at + 12 ≤ 4096
+  unfolding needed recordCells
+  record-begins at b q r e = omega (arith, fits-ends at need (sym r ∙ e), q)
+
+  pub record-told : (at : ℕ) (r : Told) → need ≡ needed n → r ≡ newTold j (task (j .task .head) (at + 1) (On (Marker at)) 0) at n need v
+      → r ≡ recordTold j at flag v
+  unfolding recordTold
+  record-told at r q f =
+      let k : Task = task (j .task .head) (at + 1) (On (Marker at)) 0 in
+      f ∙ ap (λ (i : ℕ). newTold j k at n i v) q ∙ ap (λ (m : Counts). newTold j k at m (needed m) v) p
+
+-- ---- an update: whether the areas that it goes over are byte cells
+
+both-true : (b : Bool) → both b true ≡ b
+both-true true = refl
+both-true false = refl
+
+module _ (t : List ℕ) where
+  pub not-there : (b : Bool) (a : Area) → b ≡ false → true ≡ allRecorded t (areaIf b a)
+  unfolding allRecorded areaIf
+  not-there b a e = ap (λ (z : Bool). allRecorded t (areaIf z a)) (sym e)
+
+  pub area-there : (b : Bool) (a : Area) (r : Bool) → b ≡ true → r ≡ recorded t a → r ≡ allRecorded t (areaIf b a)
+  unfolding allRecorded areaIf
+  area-there b a r e f = f ∙ sym (both-true (recorded t a)) ∙ ap (λ (z : Bool). allRecorded t (areaIf z a)) (sym e)
+
+  recorded-two : (l m : List Area) → allRecorded t (l ++ m) ≡ both (allRecorded t l) (allRecorded t m)
+  unfolding allRecorded
+  recorded-two [] m = refl
+  recorded-two (a ∷ l) m = ap (both (recorded t a)) (recorded-two l m) ∙ both-assoc (recorded t a) _ _
+    where
+      both-assoc : (x y z : Bool) → both x (both y z) ≡ both (both x y) z
+      both-assoc true y z = refl
+      both-assoc false y z = refl
+
+sent-key : (key : Bool) (n : Counts) → ltb 0 (keySent key n) ≡ both key (ltb 0 (n .kl))
+unfolding keySent
+sent-key true n = refl
+sent-key false n = refl
+
+module _ (t : List ℕ) (key : Bool) (c : ℕ) (n : Counts) (s : ℕ) (q : s ≡ keySent key n) (k : Area) (p : k ≡ keyArea c n) (x : Bool) (f : x ≡ allRecorded t (areaIf (ltb 0 s) k)) where
+  key-part : allRecorded t (named c key true n) ≡ both x (allRecorded t (areaIf (ltb 0 (n .dl)) (dataArea c n)))
+  unfolding named
+  key-part =
+      recorded-two t _ _
+      ∙ ap (λ (z : Bool). both z (allRecorded t (areaIf (ltb 0 (n .dl)) (dataArea c n))))
+      (sym (f ∙ ap₂ (λ (i : ℕ) (a : Area). allRecorded t (areaIf (ltb 0 i) a)) q p ∙ ap (λ (z : Bool). allRecorded t (areaIf z (keyArea c n))) (sent-key key n)))
+
+  pub key-bad : x ≡ false → false ≡ allRecorded t (named c key true n)
+  key-bad e = sym (key-part ∙ ap (λ (z : Bool). both z (allRecorded t (areaIf (ltb 0 (n .dl)) (dataArea c n)))) e)
+
+  pub both-recorded : (d : Area) (y : Bool) → x ≡ true → d ≡ dataArea c n → y ≡ allRecorded t (areaIf (ltb 0 (n .dl)) d) → y ≡ allRecorded t (named c key true n)
+  both-recorded d y e o g =
+      g ∙ ap (λ (a : Area). allRecorded t (areaIf (ltb 0 (n .dl)) a)) o
+      ∙ sym (key-part ∙ ap (λ (z : Bool). both z (allRecorded t (areaIf (ltb 0 (n .dl)) (dataArea c n)))) e)
+
+-- Unit Exception, or not
+module _ (j : Job) where
+  pub accepted : j .rule .excepts ≡ false → Normal ≡ endingOf j
+  unfolding endingOf
+  accepted e = ap (λ (b : Bool). pick (both b (eqb (j .counts .dl) 0)) Exception Normal) (sym e)
+
+  pub ended-empty : j .rule .excepts ≡ true → j .counts .dl ≡ 0 → Exception ≡ endingOf j
+  unfolding endingOf
+  ended-empty e f = ap₂ (λ (a b : Bool). pick (both a b) Exception Normal) (sym e) (sym (eq-eqb (j .counts .dl) 0 f))
+
+  pub ended-full : (j .counts .dl ≡ 0 → ⊥) → Normal ≡ endingOf j
+  unfolding endingOf
+  ended-full f = sym (ap (λ (b : Bool). pick (both (j .rule .excepts) b) Exception Normal) (ne-eqb (j .counts .dl) 0 f) ∙ none (j .rule .excepts))
+    where
+      none : (b : Bool) → pick (both b false) Exception Normal ≡ Normal
+      none true = refl
+      none false = refl
+
+module _ (t : List ℕ) (key : Bool) (j : Job) (b : Bool) (q : b ≡ allRecorded t (named (j .task .place) key true (j .counts))) (r : Told) where
+  pub over-fails : b ≡ false → r ≡ failedAt (j .stands) (j .orders) Unreadable → r ≡ overTold key j t
+  unfolding overTold overBy
+  over-fails e f = f ∙ sym (second-picked _ _ _ (sym q ∙ e))
+
+  pub over-ends : (s : ℕ) (x : Ending) → b ≡ true → s ≡ keySent key (j .counts) → x ≡ endingOf j
+      → r ≡ endedAt j (j .task) x (Moving.Takes (s + j .counts .dl)) false → r ≡ overTold key j t
+  unfolding overTold overBy
+  over-ends s x e f g h =
+      h ∙ ap₂ (λ (y : Ending) (i : ℕ). endedAt j (j .task) y (Moving.Takes (i + j .counts .dl)) false) g f ∙ sym (first-picked _ _ _ (sym q ∙ e))
+
+-- ---- the cells that are laid do not show
+
+told-pick : (b : Bool) (x y : Turn) (p q : Told) → toldOf x ≡ p → toldOf y ≡ q → pick b p q ≡ toldOf (pick b x y)
+told-pick true x y p q e f = sym e
+told-pick false x y p q e f = sym f
+
+module _ (x : Sight) where
+  told-home : endedAt (x .job) (x .job .task) Normal (Moving.Takes 5) false ≡ toldOf (laysHome x)
+  unfolding laysHome movingOf
+  told-home = sym (ended x Normal (Takes 5) _ false)
+
+  told-new : (k : Task) (first : ℕ) (n : Counts) (need : ℕ) (v : List ℕ) → newTold (x .job) k first n need (x .sent) ≡ toldOf (laysNew x k first n need v)
+  unfolding newTold laysNew movingOf
+  told-new k first n need v =
+      let m : Moves = Takes (recordTakes (x .sent) n) in
+      let l : List Piece = piece x first (toEnd first v) ∷ [] in
+      told-pick (fits first need) (endsAt x k Normal m l false) (fails x NoRoom) _ _ (ended-at x Normal m l false k) (failed-by x NoRoom)
+
+  told-over : (key : Bool) → overBy key (x .job) (x .recorded) ≡ toldOf (updates key x (x .job .task .place) (x .job .counts))
+  unfolding overBy updates movingOf
+  told-over key =
+      let n : Counts = x .job .counts in
+      let c : ℕ = x .job .task .place in
+      let m : Moves = Takes (keySent key n + n .dl) in
+      let l : List Piece = over x (keyArea c n) 0 (keySent key n) ++ over x (dataArea c n) (keySent key n) (n .dl) in
+      let e : Ending = endingOf (x .job) in
+      told-pick (x .recorded) (ends x e m l false) (fails x Unreadable) _ _ (ended x e m l false) (failed-by x Unreadable)
+
+-- ---- by the write
+
+module _ (t v : List ℕ) (j : Job) (w : Write) (s : Writes j w) (r : Told) where
+  abbrev x : Sight
+  x = sight (alone t) j v
+
+  told-by : (y : Write) → w ≡ y → r ≡ toldOf (lays y x) → r ≡ toldOf (lays w x)
+  told-by y e f = f ∙ ap (λ (z : Write). toldOf (lays z x)) (sym e)
+
+  pub tells-home : w ≡ Write.HomeAddress → r ≡ endedAt j (j .task) Normal (Moving.Takes 5) false → r ≡ toldOf (lays w x)
+  unfolding sight lays
+  tells-home e f = told-by Write.HomeAddress e (f ∙ told-home x)
+
+  pub tells-r0 : (home flag : ℕ) → w ≡ Write.R0 → home ≡ getD t 0 0 % 256 → flag ≡ flagOfZero home → r ≡ r0Told j flag v → r ≡ toldOf (lays w x)
+  unfolding sight lays laysR0 r0Told
+  tells-r0 home flag e p q f =
+      told-by Write.R0 e (f ∙ told-new x _ _ _ _ _ ∙ ap (λ (i : ℕ). toldOf (laysR0 x i)) (flag-r0 t v j w s e home flag p q))
+
+  pub tells-record : (at flag : ℕ) → w ≡ Write.CountKeyData → at ≡ endBy (j .task .place) (j .counts) → flag ≡ flagAfter (j .counts .flag)
+      → r ≡ recordTold j at flag v → r ≡ toldOf (lays w x)
+  unfolding sight lays laysRecord recordTold
+  tells-record at flag e p q f =
+      told-by Write.CountKeyData e (f ∙ told-new x _ _ _ _ _ ∙ ap₂ (λ (i k : ℕ). toldOf (laysRecord x i k)) p q)
+
+  pub tells-over : (key : Bool) → w ≡ Write.Update key → r ≡ overTold key j t → r ≡ toldOf (lays w x)
+  unfolding sight lays overTold
+  tells-over key e f = told-by (Write.Update key) e (f ∙ ap (overBy key j) (recorded-is t v j w s key e) ∙ told-over x key)

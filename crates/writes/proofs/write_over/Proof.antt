@@ -1,0 +1,36 @@
+-- Cells that are no bytes end it; else it ends at its own place, by DL.
+use borrow.Author.Tests.{not-true, not-false}
+use Rattle.writes.proofs.Told.{over-fails, over-ends}
+use borrow.Author.Needs.{needs}
+use Rattle.writes.proofs.write_over.Statement.{statement}
+use Rattle.writes.proofs.write_over.Tie as tie
+use Rattle.writes.proofs.write_over.Reads as reads
+use Rattle.writes.proofs.write_over.Lts as lts
+use Rattle.ending.proofs.ended.Reads as ended-reads
+use Rattle.writes.proofs.are_recorded.Reads as are-recorded-reads
+use Rattle.writes.proofs.ending_of.Reads as ending-of-reads
+use Rattle.writes.proofs.fail.Reads as fail-reads
+use Rattle.writes.proofs.key_sent.Reads as key-sent-reads
+
+returns : tie.Need-returns
+returns c = over-fails _ _ _ _ (c .before .before .are-recorded .ensures) _ (not-true _ (c .before .if1 .taken)) (c .fail .ensures)
+
+returns-2 : tie.Need-returns-2
+returns-2 c =
+    let k = c .before .before .before in
+    over-ends _ _ _ _ (k .before .before .are-recorded .ensures) _ _ _ (not-false _ (k .before .if1 .left)) (k .key-sent .ensures) (c .before .ending-of .ensures) (c .ended .ensures)
+
+pub write-over-spec : {M : Type 1} → statement M
+write-over-spec =
+    tie.close
+    (tie.spec
+    (λ c κs. search needs)
+    (λ c κs. search needs)
+    returns
+    (λ c κs. search needs)
+    (λ c. search needs)
+    (λ c. search needs)
+    (λ c. search needs)
+    (λ c κs. search needs)
+    (λ c κs. search needs)
+    returns-2)

@@ -1,0 +1,2 @@
+-- What the functions of the writes promise one another.
+pub mod Writes

@@ -1,0 +1,241 @@
+// The writes: how each ends, and the cells that it lays on the track under the head.
+use areas::Area;
+use areas::Counts;
+use command::Job;
+use command::Task;
+use held::Selection;
+use hunt::Spot;
+use outcome::Ending;
+use rows::Row;
+use table::Write;
+use turn::Moving;
+use turn::Told;
+ghost use mathlib.Core.Path.{_≡_};
+ghost use mathlib.Core.Bool.{true, false};
+ghost use mathlib.Core.List.{_∷_};
+ghost use Prim.Native.Nat.{_<_};
+ghost use Rattle.cells.specs.Bytes.{padded};
+ghost use Rattle.cells.specs.Cells.{marker};
+ghost use Rattle.house_check.specs.Area as House;
+ghost use Rattle.areas.specs.Areas.{homeBytes, zeroFirst, recordCells, needed};
+ghost use Rattle.hunt.specs.Hunt.{Whole};
+ghost use Rattle.room.specs.Room.{fits};
+ghost use Rattle.recording.specs.Recording.{Lies};
+ghost use Rattle.laying.specs.Laying.{newCounts, newRecord, formatted};
+ghost use Rattle.work.specs.Work.{areaIf, named};
+ghost use Rattle.turn.specs.Turn.{alone, laid, isCheck, toldOf};
+ghost use Rattle.command.specs.Command.{allRecorded, sight, endingOf, recordTakes, keySent, lays};
+ghost use Rattle.ending.specs.Ending.{failedAt};
+ghost use Rattle.writes.specs.Writes.{Writes, goneOver, updated, Over, r0Told, recordTold, overTold};
+
+const HOME_BYTES: usize = 5;
+// The cell behind the home address, where R0 begins.
+const R0_FIRST: u16 = 7;
+// Bytes of a count that are sent.
+const COUNT_SENT: u32 = 8;
+
+// Bytes of the key that are sent.
+fn key_sent(key: bool, n: Counts) -> u8
+    ensures { λ r. ⌜ r ≡ keySent key n ⌝ }
+{
+    if key {
+        return n.kl;
+    }
+    0
+}
+
+// Bytes that a new record takes: until its count is sent, 8.
+fn record_takes(sent: &[u8], n: Counts) -> u32
+    ensures { λ r. ⌜ r ≡ recordTakes (now (sent .entry)) n ⌝ }
+{
+    if sent.len() < COUNT_SENT as usize {
+        return COUNT_SENT;
+    }
+    COUNT_SENT + n.kl as u32 + n.dl as u32
+}
+
+// Unit Check for a row of the table.
+fn fail(j: Job, row: Row) -> Told
+    ensures { λ r. ⌜ r ≡ failedAt (j .stands) (j .orders) row ⌝ }
+{
+    let stands = j.stands;
+    let orders = j.orders;
+    ending::failed(stands, orders, row)
+}
+
+// Write R0.
+fn write_r0(flag: u8, j: Job, sent: &[u8]) -> Told
+    ensures { λ r. ⌜ r ≡ r0Told j flag (now (sent .entry)) ⌝ }
+{
+    let n = laying::new_counts(flag, sent);
+    if !room::has_room(R0_FIRST as u32, areas::record_cells(n)) {
+        return fail(j, Row::NoRoom);
+    }
+    let moving = Moving::Takes(record_takes(sent, n));
+    ending::ended(j, Ending::Normal, moving, false)
+}
+
+// Write Count Key Data, from a cell on, which can lie far past the track.
+fn write_after(at: u32, flag: u8, j: Job, sent: &[u8]) -> Told
+    ensures { λ r. ⌜ r ≡ recordTold j at flag (now (sent .entry)) ⌝ }
+{
+    let n = laying::new_counts(flag, sent);
+    if !room::has_room(at, areas::cells_needed(n)) {
+        return fail(j, Row::NoRoom);
+    }
+    let p = at as u16;
+    let head = j.task.head;
+    let task = Task {
+        head,
+        place: p + 1,
+        selection: Selection::On(Spot::Marker(p)),
+        tally: 0,
+    };
+    let moving = Moving::Takes(record_takes(sent, n));
+    ending::ended_at(j, task, Ending::Normal, moving, false)
+}
+
+// Whether an area that is there is all recorded bytes.
+fn is_recorded_if(track: &[u16], there: bool, a: Area) -> bool
+    ensures { λ r. ⌜ r ≡ allRecorded (now (track .entry)) (areaIf there a) ⌝ }
+{
+    if !there {
+        return true;
+    }
+    laying::is_recorded(track, a)
+}
+
+// Whether the areas that an update goes over are.
+fn are_recorded(track: &[u16], key: bool, c: u16, n: Counts) -> bool
+    ensures { λ r. ⌜ r ≡ allRecorded (now (track .entry)) (named c key true n) ⌝ }
+{
+    let keyed = 0 < key_sent(key, n);
+    if !is_recorded_if(track, keyed, areas::key_area(c, n)) {
+        return false;
+    }
+    is_recorded_if(track, 0 < n.dl, areas::data_area(c, n))
+}
+
+// Unit Exception where the row says so and DL is 0.
+fn ending_of(j: Job) -> Ending
+    ensures { λ r. ⌜ r ≡ endingOf j ⌝ }
+{
+    if !j.rule.excepts {
+        return Ending::Normal;
+    }
+    if j.counts.dl == 0 {
+        return Ending::Exception;
+    }
+    Ending::Normal
+}
+
+// Write Data, and Write Key and Data.
+fn write_over(key: bool, j: Job, track: &[u16]) -> Told
+    ensures { λ r. ⌜ r ≡ overTold key j (now (track .entry)) ⌝ }
+{
+    let n = j.counts;
+    if !are_recorded(track, key, j.task.place, n) {
+        return fail(j, Row::Unreadable);
+    }
+    let moving = Moving::Takes(key_sent(key, n) as u32 + n.dl as u32);
+    ending::ended(j, ending_of(j), moving, false)
+}
+
+// How a write ends, the bytes that it takes, and what is held then. It lays nothing.
+pub fn write(w: Write, j: Job, sent: &[u8], track: &[u16]) -> Told
+    requires { ⌜ Writes j w ⌝ }
+    ensures { λ r. ⌜ r ≡ toldOf (lays w (sight (alone (now (track .entry))) j (now (sent .entry)))) ⌝ }
+{
+    let n = j.counts;
+    match w {
+        Write::HomeAddress => ending::ended(
+            j,
+            Ending::Normal,
+            Moving::Takes(HOME_BYTES as u32),
+            false,
+        ),
+        Write::R0 => {
+            let home = cells::low_at(track, 0);
+            write_r0(areas::flag_of_zero(home), j, sent)
+        }
+        Write::CountKeyData => write_after(
+            areas::end_by(j.task.place, n),
+            areas::flag_after(n.flag),
+            j,
+            sent,
+        ),
+        Write::Update(key) => write_over(key, j, track),
+    }
+}
+
+// Write HA.
+fn lay_home(sent: &[u8], track: &mut [u16])
+    requires { ⌜ Whole (now track) ⌝ }
+    ensures { λ _. ⌜ now (track .exit) ≡ formatted (now (track .entry)) 0 (House.laid (padded homeBytes (now (sent .entry)))) ⌝ }
+{
+    recording::write_area(track, 0, sent, HOME_BYTES);
+    recording::wipe(track, R0_FIRST as usize);
+}
+
+// Write R0, where it has room.
+fn lay_r0(flag: u8, sent: &[u8], track: &mut [u16])
+    requires { ⌜ Whole (now track) × (fits zeroFirst (recordCells (newCounts flag (now sent))) ≡ true) ⌝ }
+    ensures { λ _. ⌜ now (track .exit) ≡ formatted (now (track .entry)) zeroFirst (newRecord flag (now (sent .entry))) ⌝ }
+{
+    let n = laying::new_counts(flag, sent);
+    laying::lay_record(track, R0_FIRST, flag, sent, n);
+    recording::wipe(track, R0_FIRST as usize + areas::record_cells(n) as usize);
+}
+
+// Write Count Key Data, from a cell on where it has room.
+fn lay_after(at: u32, flag: u8, sent: &[u8], track: &mut [u16])
+    requires { ⌜ Whole (now track) × (fits at (needed (newCounts flag (now sent))) ≡ true) ⌝ }
+    ensures { λ _. ⌜ now (track .exit) ≡ formatted (now (track .entry)) at (marker ∷ newRecord flag (now (sent .entry))) ⌝ }
+{
+    let n = laying::new_counts(flag, sent);
+    laying::lay_marked(track, at as u16, flag, sent, n);
+    recording::wipe(track, at as usize + areas::cells_needed(n) as usize);
+}
+
+// An area of n bytes, if there are any, of those sent from one on.
+fn go_over(first: u32, from: u16, n: u16, sent: &[u8], track: &mut [u16])
+    requires { ⌜ (0 < n → Lies (now track) first n) ⌝ }
+    ensures { λ _. ⌜ now (track .exit) ≡ goneOver (now (track .entry)) first (now (sent .entry)) from n ⌝ }
+{
+    if 0 < n {
+        laying::lay_area(track, first as usize, n as usize, sent, from, n);
+    }
+}
+
+// Write Data, and Write Key and Data, over areas that lie on the track.
+fn update(key: bool, c: u16, n: Counts, sent: &[u8], track: &mut [u16])
+    requires { ⌜ Over (now track) key c n ⌝ }
+    ensures { λ _. ⌜ now (track .exit) ≡ updated (now (track .entry)) key c n (now (sent .entry)) ⌝ }
+{
+    let keyed = key_sent(key, n) as u16;
+    go_over(areas::key_area(c, n).first, 0, keyed, sent, track);
+    go_over(areas::data_area(c, n).first, keyed, n.dl, sent, track);
+}
+
+// What a write lays that ends in no Unit Check.
+pub fn lay(w: Write, j: Job, sent: &[u8], track: &mut [u16])
+    requires { ⌜ Whole (now track) × Writes j w × (isCheck (lays w (sight (alone (now track)) j (now sent)) .ending) ≡ false) ⌝ }
+    ensures { λ _. ⌜ now (track .exit) ≡ laid (lays w (sight (alone (now (track .entry))) j (now (sent .entry))) .lays) (now (track .entry)) ⌝ }
+{
+    let c = j.task.place;
+    let n = j.counts;
+    match w {
+        Write::HomeAddress => lay_home(sent, track),
+        Write::R0 => {
+            let home = cells::low_at(track, 0);
+            lay_r0(areas::flag_of_zero(home), sent, track)
+        }
+        Write::CountKeyData => lay_after(
+            areas::end_by(c, n),
+            areas::flag_after(n.flag),
+            sent,
+            track,
+        ),
+        Write::Update(key) => update(key, c, n, sent, track),
+    }
+}
