@@ -1,8 +1,11 @@
 -- What the code's calls come to, in the model's words.
-use Prim.Native.Nat.{ℕ}
+use Prim.Native.Nat.{ℕ, _+_, _-_, _≤_}
 use mathlib.Core.Path.{_≡_, refl, sym, ap, _∙_, subst}
 use mathlib.Core.Bool.{Bool}
 use mathlib.Core.List.{List}
+use native.Mathlib.Omega.{arith}
+use lib.ListN.{length, take, drop}
+use borrow.Rule.Slice.PartMut.{putMid}
 use Rattle.words.specs.declared.Word.{Word}
 use Rattle.words.specs.declared.Cause.{Cause}
 use Rattle.words.specs.declared.Status.{Status}
@@ -12,9 +15,18 @@ use Rattle.words.proofs.Obeys.{TestedIn, tested-in}
 use Rattle.words.specs.Words.{Reaches, tested}
 use Rattle.words.specs.Status.{stored, programCheck}
 use Rattle.pack.specs.declared.Shape.{Shape}
+use Rattle.pack.specs.Tracks.{startOf, trackAt, withTrack}
+use Rattle.pack.proofs.Laws.{lent-is, lent-back}
 use Rattle.held.specs.declared.Held.{Held}
 use Rattle.held.specs.Held.{rested}
-use Rattle.chain.specs.Step.{World, world, next, stops, takes, step}
+use Rattle.turn.specs.Turn.{toldOf, laid}
+use Rattle.frame.proofs.Here.{command-here}
+use Rattle.channel.specs.Channel.{fetched, heldAfter, storageAfter, Served, served, servedBy, turnOn, serves}
+use Rattle.channel.specs.Inside.{Serves}
+use Rattle.chain.specs.Legal.{Legal}
+use Rattle.chain.specs.Step.{World, world, under, selected, next, tracksOf, stops, turnOf, settled, obeyed, takes, step}
+use Rattle.chain.proofs.Fits.{key-in, selected-on}
+use Rattle.chain.proofs.Legal.{track-whole, turn-left, put-back}
 
 pub world-eq : {h k : Held} {s t c d : List ℕ} → h ≡ k → s ≡ t → c ≡ d → world h s c ≡ world k t d
 world-eq p q r = λ i. record { held = p i; storage = q i; cells = r i }
@@ -32,3 +44,50 @@ taken g w v x y p q r = r ∙ ap (takes g w) (sym q ∙ p)
 
 pub word-reaches : (s : List ℕ) (at : ℕ) (tic : Bool) (x : Tested) (w : Word) → x ≡ tested s at tic → x ≡ Obey w → Reaches s w
 word-reaches s at tic x w p q = record { area = subst (TestedIn s) (sym p ∙ q) (tested-in s at tic) }
+
+-- ---- a command on the track under the head
+
+under-is : (g : Shape) (h : Held) → startOf g (h .stands .cylinder) (h .stands .head) ≡ under g h
+unfolding under
+under-is g h = refl
+
+module _ (g : Shape) (h : Held) (w : Word) (s cells : List ℕ) (L : Legal g (world h s cells)) where
+  abbrev W : World
+  W = world h s cells
+
+  -- the cells that are lent are the track under the head
+  lent-there : (a : ℕ) → a ≡ startOf g (h .stands .cylinder) (h .stands .head) → take (a + 4096 - a) (drop a cells) ≡ selected g W
+  unfolding selected under
+  lent-there a e = lent-is cells a ∙ ap (trackAt cells) e
+
+  pub lent-serves : (a : ℕ) → a ≡ startOf g (h .stands .cylinder) (h .stands .head) → Reaches s w → Serves h w s (take (a + 4096 - a) (drop a cells))
+  lent-serves a e r =
+      subst (Serves h w s) (sym (lent-there a e))
+      (record {
+        room = omega (arith, L .room);
+        key = key-in (h .channel) (L .channeled);
+        reaches = r;
+        whole = track-whole g W L;
+        selected = selected-on _ (h .orders) (L .ordered);
+      })
+
+  -- a command works on that track alone
+  turn-there : turnOn g h w s (selected g W) ≡ turnOf g W w
+  unfolding turnOn turnOf selected under tracksOf
+  turn-there = sym (command-here g (tracksOf g cells (h .stands .cylinder)) (h .stands) (h .orders) (w .code) (fetched s w))
+
+  served-there : serves g h w s (selected g W)
+      ≡ served (heldAfter (h .channel) w (toldOf (turnOf g W w))) (storageAfter (h .channel) w (turnOf g W w) s) (laid (turnOf g W w .lays) (selected g W))
+  unfolding serves servedBy
+  served-there = ap (servedBy h w s (selected g W)) turn-there
+
+  pub commanded : (a : ℕ) (r : Held) (s′ t′ : List ℕ) → a ≡ startOf g (h .stands .cylinder) (h .stands .head) → a + 4096 ≤ length cells → Reaches s w
+      → served r s′ t′ ≡ serves g h w s (take (a + 4096 - a) (drop a cells)) → length t′ ≡ length (take (a + 4096 - a) (drop a cells))
+      → world r s′ (putMid a (a + 4096 - a) cells t′) ≡ obeyed g W w
+  unfolding obeyed settled
+  commanded a r s′ t′ e fits reach did long =
+      let same = did ∙ ap (serves g h w s) (lent-there a e) ∙ served-there in
+      world-eq (ap (λ (z : Served). z .held) same) (ap (λ (z : Served). z .storage) same)
+      (lent-back (λ z. t′) cells t′ a (under g h) (e ∙ under-is g h) fits long refl
+      ∙ ap (λ (z : Served). withTrack cells (under g h) (z .track)) same
+      ∙ sym (put-back g W L w (turnOf g W w) (turn-left g W L w) reach))

@@ -1,2 +1,4 @@
--- Laws of how the channel ends a command.
+-- Laws of the channel about a command.
 pub mod Laws
+pub mod Parts
+pub mod Turns

@@ -30,12 +30,12 @@ use Rattle.command.specs.declared.Ready.{Ready}
 use Rattle.command.specs.declared.Ready.the-variants as Ready
 use Rattle.command.specs.Command.{Sight, sight, fails, endsAt, ends, endingOf, rests, senses, addressed, arrives, seeks, masked, masks, spaces, satisfied, comparesWith, compares, gives, laysHome, laysNew, laysR0, laysRecord, over, updates, does, lays, acts, turnBy, obeys, command}
 
-abbrev LaysBy : Moves → List Piece → Type 0
+abbrev pub LaysBy : Moves → List Piece → Type 0
 LaysBy None l = l ≡ []
 LaysBy (Gives v) l = l ≡ []
 LaysBy (Takes n) l = Unit {0}
 
-abbrev LaysAt : Ending → List Piece → Type 0
+abbrev pub LaysAt : Ending → List Piece → Type 0
 LaysAt Normal l = Unit {0}
 LaysAt Satisfied l = Unit {0}
 LaysAt Exception l = Unit {0}

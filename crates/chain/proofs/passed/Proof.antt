@@ -1,14 +1,13 @@
--- `chain::passed` meets its contract. Assumes nothing.
-use borrow.Author.Needs.{needs}
-use Rattle.chain.proofs.Strokes.{passed-is}
+-- The orders are those after a No-op, and the next word is the one told.
+use Rattle.outcome.specs.Outcome.{after, ordered}
+use Rattle.chain.specs.Stroke.{passed}
+use mathlib.Core.Path.{refl}
 use Rattle.chain.proofs.passed.Statement.{statement}
 use Rattle.chain.proofs.passed.Tie as tie
 
-ordered-after-requires : tie.Need-ordered-after-requires
-ordered-after-requires c κs = search needs
-
 returns : tie.Need-returns
-returns c = passed-is _ _ _ (c .ordered-after .ensures)
+unfolding passed after ordered
+returns c = refl
 
 pub passed-spec : {M : Type 1} → statement M
-passed-spec = tie.close (tie.spec ordered-after-requires returns)
+passed-spec = tie.close (tie.spec returns)

@@ -2,6 +2,7 @@
 -- Assumes nothing.
 use mathlib.Core.Path.{refl}
 use Rattle.chain.specs.Step.{takes}
+use Rattle.chain.proofs.Fits.{key-in}
 use Rattle.chain.proofs.Laws.{taken, word-reaches, world-eq}
 use borrow.Author.Needs.{needs}
 use Rattle.chain.proofs.step.Statement.{statement}
@@ -28,7 +29,9 @@ enum-known-cause : tie.Need-enum-known-cause
 enum-known-cause c = search needs
 
 stop-requires : tie.Need-stop-requires
-stop-requires c κs = search needs
+stop-requires c κs =
+    let p = c .before .before .before .before .before .before .before .before .pre in
+    (p .room, key-in _ (p .channeled))
 
 same-length : tie.Need-same-length
 same-length c = search needs

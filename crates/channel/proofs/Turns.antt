@@ -1,0 +1,181 @@
+-- The bytes sent are the part of storage that the word names; what is given comes back to that part. A turn that gives lays nothing, one that takes gives
+-- nothing, and a Unit Check lays nothing: so one transfer of bytes, or of cells, is all of a turn.
+use Prim.Native.Nat.{ℕ, _+_, _-_, _≤_}
+use mathlib.Core.Path.{_≡_, refl, sym, ap, ap₂, _∙_, subst}
+use mathlib.Core.Bool.{Bool, true, false}
+use mathlib.Core.List.{List, [], _++_, append-assoc}
+use native.Mathlib.Omega.{arith}
+use lib.ListN.{length, take, drop, length-take}
+use lib.Seq.{take-nil, drop-drop}
+use borrow.Rule.Slice.PartMut.{putMid}
+use Rattle.cells.specs.Bytes.{part, overlay}
+use native.Mathlib.Nat.{add-zero}
+use Rattle.cells.proofs.Laws.{length-part, length-overlay, overlay-none, overlay-same}
+use Rattle.channel.proofs.Parts.{overlay-inner}
+use Rattle.rows.specs.declared.Row.{Row}
+use Rattle.words.specs.declared.Word.{Word}
+use Rattle.words.specs.Words.{Reaches}
+use Rattle.pack.specs.declared.Shape.{Shape}
+use Rattle.held.specs.declared.Held.{Held}
+use Rattle.held.specs.declared.Stands.{Stands}
+use Rattle.held.specs.declared.Orders.{Orders}
+use Rattle.turn.specs.declared.Moving.{Moving}
+use Rattle.turn.specs.declared.Moving.the-variants as Moving
+use Rattle.turn.specs.declared.Told.{Told}
+use Rattle.turn.specs.Turn.{Tracks, Lies, Piece, Moves, None, Gives, Takes, alone, given, movingOf, filled, Turn, toldOf, laid, isCheck, checks}
+use Rattle.command.specs.declared.Job.{Job}
+use Rattle.command.specs.declared.Ready.{Ready}
+use Rattle.command.specs.declared.Ready.the-variants as Ready
+use Rattle.command.specs.Command.{sight, acts, command, readies}
+use Rattle.command.proofs.Moves.{LaysBy, Lays, acts-lay, checks-lay, check-lays}
+use Rattle.command.proofs.Comes.{job-acts, row-ends}
+use Rattle.unit.specs.Unit.{Accepts}
+use Rattle.ending.specs.Ending.{failedAt}
+use Rattle.ending.proofs.Laws.{failed}
+use Rattle.channel.specs.Channel.{fetched, placed, heldAfter, withStatus, storageAfter, served, servedBy, turnOn, serves}
+use Rattle.channel.specs.Inside as Inside
+use Rattle.channel.specs.Inside.{jobTurn, Asked, Turned}
+
+-- ---- the part of storage that a word names
+
+pub sent-is : (s : List ℕ) (a n : ℕ) → take (a + n - a) (drop a s) ≡ part s a n
+unfolding part
+sent-is s a n = let k : a + n - a ≡ n = omega arith in ap (λ (m : ℕ). take m (drop a s)) k
+
+-- a part that is lent on comes back in its place
+lent : (s t : List ℕ) (a n : ℕ) → a + n ≤ length s → length t ≡ n → putMid a (a + n - a) s t ≡ overlay s a t
+unfolding overlay
+lent s t a n inside long =
+    let k : a + n - a ≡ n = omega arith in
+    rw (k, drop-drop, long, append-assoc)
+
+-- bytes put into that part, as many as find room, are bytes put at the word's address, as many as its count says
+module _ (s v : List ℕ) (a n : ℕ) (inside : a + n ≤ length s) where
+  abbrev p : List ℕ
+  p = take (a + n - a) (drop a s)
+
+  room : length p ≡ n
+  room = ap length (sent-is s a n) ∙ length-part s a n inside
+
+  short : length (take (length p) v) ≤ length p
+  short = omega (arith, length-take (length p) v)
+
+  pub back : putMid a (a + n - a) s (filled p 0 v) ≡ overlay s a (take n v)
+  unfolding filled
+  back =
+      lent s (overlay p 0 (take (length p) v)) a n inside (length-overlay p 0 (take (length p) v) (omega (arith, short)) ∙ room)
+      ∙ sym (overlay-inner s p (take (length p) v) a 0 (omega (arith, room, inside)) (omega (arith, short)))
+      ∙ ap₂ (λ (x : List ℕ) (m : ℕ). overlay x m (take (length p) v)) (ap (overlay s a) (sent-is s a n) ∙ overlay-same s a n inside) (add-zero a)
+      ∙ ap (λ (m : ℕ). overlay s a (take m v)) room
+
+pub came-back : (s u v w : List ℕ) (a n : ℕ) → a + n ≤ length s → u ≡ filled (take (a + n - a) (drop a s)) 0 v → v ≡ w → putMid a (a + n - a) s u ≡ overlay s a (take n w)
+came-back s u v w a n inside e f = ap (putMid a (a + n - a) s) e ∙ back s v a n inside ∙ ap (λ (z : List ℕ). overlay s a (take n z)) f
+
+-- ---- what the calls on that part come to
+
+module _ (j : Job) (w : Word) (s t : List ℕ) where
+  abbrev sent : List ℕ
+  sent = take (w .address + w .count - w .address) (drop (w .address) s)
+
+  abbrev Of : Shape → List ℕ → Turn
+  Of g v = acts g (j .rule .act) (sight (alone t) j v)
+
+  turn-is : (g : Shape) → Of g sent ≡ jobTurn g j w s t
+  unfolding jobTurn fetched
+  turn-is g = ap (Of g) (sent-is s (w .address) (w .count))
+
+  pub asked : (g : Shape) (d : Told) → d ≡ toldOf (acts g (j .rule .act) (sight (alone t) j sent)) → d ≡ toldOf (jobTurn g j w s t)
+  asked g d e = e ∙ ap toldOf (turn-is g)
+
+  pub gave : (u : List ℕ) → Reaches s w → ((g : Shape) (v : List ℕ) → u ≡ filled sent 0 (given (acts g (j .rule .act) (sight (alone t) j v) .moves)))
+      → (g : Shape) → putMid (w .address) (w .address + w .count - w .address) s u ≡ placed s w (given (jobTurn g j w s t .moves))
+  unfolding placed jobTurn
+  gave u r e g = came-back s u _ _ (w .address) (w .count) (r .area) (e g (fetched s w)) refl
+
+  pub accepts : Inside.Takes j w s t → Accepts j sent t
+  accepts h = record { shape = h .shape; ends = ap (λ (z : Turn). isCheck (z .ending)) (turn-is (h .shape)) ∙ h .ends }
+
+  pub laid-there : (u : List ℕ) → ((g : Shape) → u ≡ laid (acts g (j .rule .act) (sight (alone t) j sent) .lays) t) → (g : Shape) → u ≡ laid (jobTurn g j w s t .lays) t
+  laid-there u e g = e g ∙ ap (λ (z : Turn). laid (z .lays) t) (turn-is g)
+
+-- ---- one transfer is all of a turn
+
+-- by the number of bytes told: what lays nothing, and what gives nothing
+abbrev Alone : Moving → List ℕ → List Piece → Type 0
+Alone Moving.None v l = (v ≡ []) × (l ≡ [])
+Alone (Moving.Gives n) v l = l ≡ []
+Alone (Moving.Takes n) v l = v ≡ []
+
+moves-alone : (m : Moves) (l : List Piece) → LaysBy m l → Alone (movingOf m) (given m) l
+unfolding movingOf given
+moves-alone None l h = (refl, h)
+moves-alone (Gives v) l h = h
+moves-alone (Takes n) l h = refl
+
+module _ (x : Turn) (d : Told) (m : Moving) (h : Lays x) (told : d ≡ toldOf x) where
+  by : d .moving ≡ m → Alone m (given (x .moves)) (x .lays)
+  unfolding toldOf
+  by e = subst (λ (z : Moving). Alone z (given (x .moves)) (x .lays)) (sym (ap (λ (z : Told). z .moving) told) ∙ e) (moves-alone (x .moves) (x .lays) (h .moves))
+
+module _ (x : Turn) (d : Told) (h : Lays x) (told : d ≡ toldOf x) (w : Word) (s t : List ℕ) where
+  placed-none : given (x .moves) ≡ [] → s ≡ placed s w (given (x .moves))
+  unfolding placed
+  placed-none e = sym (ap (λ (v : List ℕ). overlay s (w .address) (take (w .count) v)) e ∙ ap (overlay s (w .address)) (take-nil (w .count)) ∙ overlay-none s (w .address))
+
+  laid-none : x .lays ≡ [] → t ≡ laid (x .lays) t
+  unfolding laid
+  laid-none e = sym (ap (λ (l : List Piece). laid l t) e)
+
+  pub none-moves : d .moving ≡ Moving.None → Turned x w s t s t d
+  none-moves e = let a = by x d Moving.None h told e in record { told = told; storage = placed-none (a .0); track = laid-none (a .1) }
+
+  pub gives-moves : (n : ℕ) (s′ : List ℕ) → d .moving ≡ Moving.Gives n → s′ ≡ placed s w (given (x .moves)) → Turned x w s t s′ t d
+  gives-moves n s′ e p = record { told = told; storage = p; track = laid-none (by x d (Moving.Gives n) h told e) }
+
+  pub takes-moves : (n : ℕ) (t′ : List ℕ) → d .moving ≡ Moving.Takes n → t′ ≡ laid (x .lays) t → Turned x w s t s t′ d
+  takes-moves n t′ e p = record { told = told; storage = placed-none (by x d (Moving.Takes n) h told e); track = p }
+
+-- a Unit Check lays nothing
+pub check-laid : (x : Turn) (d : Told) (t : List ℕ) (b : Bool) → Lays x → d ≡ toldOf x → b ≡ isCheck (d .ending) → b ≡ true → t ≡ laid (x .lays) t
+unfolding toldOf laid
+check-laid x d t b h told e f =
+    sym (ap (λ (l : List Piece). laid l t) (check-lays x h (sym (ap (λ (z : Told). isCheck (z .ending)) told) ∙ sym e ∙ f)))
+
+pub job-lay : (g : Shape) (j : Job) (w : Word) (s t : List ℕ) → Lays (jobTurn g j w s t)
+unfolding jobTurn
+job-lay g j w s t = acts-lay (sight (alone t) j (fetched s w)) g (j .rule .act)
+
+pub not-check : (g : Shape) (j : Job) (w : Word) (s t : List ℕ) (d : Told) (b : Bool) → d ≡ toldOf (jobTurn g j w s t) → b ≡ isCheck (d .ending) → b ≡ false
+    → Inside.Takes j w s t
+unfolding toldOf
+not-check g j w s t d b told e f = record { shape = g; ends = sym (ap (λ (z : Told). isCheck (z .ending)) told) ∙ sym e ∙ f }
+
+-- ---- a command
+
+-- a Unit Check: nothing is given and nothing laid
+fails-turned : (st : Stands) (o : Orders) (l : List Lies) (row : Row) (w : Word) (s t : List ℕ) (d : Told) → d ≡ failedAt st o row
+    → Turned (checks st o l row) w s t s t d
+unfolding checks given laid
+fails-turned st o l row w s t d e =
+    let told : d ≡ toldOf (checks st o l row) = e ∙ sym (failed st o l row) in
+    record { told = told; storage = placed-none (checks st o l row) d (checks-lay st o l row) told w s t refl; track = refl }
+
+module _ (g : Shape) (h : Held) (w : Word) (s t : List ℕ) (x : Ready) (ready : x ≡ readies (alone t) (h .stands) (h .orders) (w .code)) where
+  pub row-turned : (row : Row) (d : Told) → x ≡ Ready.Refuses row → d ≡ failedAt (h .stands) (h .orders) row → Turned (turnOn g h w s t) w s t s t d
+  unfolding turnOn
+  row-turned row d q e =
+      subst (λ (z : Turn). Turned z w s t s t d) (row-ends (alone t) (h .stands) (h .orders) (w .code) row (sym q ∙ ready) g (fetched s w))
+      (fails-turned (h .stands) (h .orders) _ row w s t d e)
+
+  pub job-turned : (j : Job) (s′ t′ : List ℕ) (d : Told) → x ≡ Ready.Acts j → Turned (jobTurn g j w s t) w s t s′ t′ d
+      → Turned (turnOn g h w s t) w s t s′ t′ d
+  unfolding turnOn jobTurn
+  job-turned j s′ t′ d q e =
+      subst (λ (z : Turn). Turned z w s t s′ t′ d) (job-acts (alone t) (h .stands) (h .orders) (w .code) j (sym q ∙ ready) g (fetched s w)) e
+
+pub obeys : (g : Shape) (h r : Held) (w : Word) (s t s′ t′ s″ : List ℕ) (d : Told) → Turned (turnOn g h w s t) w s t s′ t′ d
+    → r ≡ heldAfter (h .channel) w d → s″ ≡ withStatus (h .channel) w d s′ → served r s″ t′ ≡ serves g h w s t
+unfolding serves servedBy storageAfter
+obeys g h r w s t s′ t′ s″ d T p q =
+    λ i. served ((p ∙ ap (heldAfter (h .channel) w) (T .told)) i)
+    ((q ∙ ap₂ (withStatus (h .channel) w) (T .told) (T .storage)) i) (T .track i)
