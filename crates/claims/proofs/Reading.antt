@@ -1,5 +1,5 @@
 -- What the words read, and what they do with damage: each side computes. That the damage is damage: one recorded byte of an area stands in
--- the place of another, so all other cells are as they were, and the bits that differ are that byte's. Assumes nothing.
+-- the place of another, so all other cells are as they were, and the bits that differ are that byte's.
 use Prim.Native.Nat.{ℕ, _<_}
 use native.Mathlib.Omega.{arith}
 use native.Mathlib.Decide.{ℕ-discrete}
@@ -9,53 +9,27 @@ use mathlib.Core.List.{List, List·Memᴰ·head}
 use lib.ListN.{length, getD, set, length-set}
 use lib.Seq.{getD-set-same, getD-set-other}
 use lib.Dec.{lit<}
-use Rattle.cells.specs.Bytes.{numberFrom, part, overlay}
-use Rattle.cells.specs.Cells.{isByte, cellOf, bytesOf, cellsOf, allBytes, marksFrom, marks}
-use Rattle.house_check.specs.Check as Check
-use Rattle.house_check.specs.Check.{feed, byteBits, bits, check}
-use Rattle.house_check.specs.Area as Area
-use Rattle.house_check.specs.Area.{agrees, goodCells, laid, Burst, window}
+use Rattle.cells.specs.Cells.{isByte, cellOf, bytesOf}
+use Rattle.house_check.specs.Area.{Burst, window}
 use Rattle.house_check.proofs.Burst.{burst-parts}
 use Rattle.areas.specs.declared.Area.{Area}
-use Rattle.areas.specs.Areas.{areaCells, readable, areaBytes, rowOf, countsOf, countsAt, readCount, keyCells, keyArea, dataArea, recordCells, endBy}
-use Rattle.areas.specs.Flags.{flagOfZero, flagAfter}
+use Rattle.areas.specs.Areas.{areaCells, readable}
 use Rattle.hunt.specs.declared.Spot.the-variants.{Marker}
-use Rattle.hunt.specs.Hunt.{scan, hunt, countFirst, spotFits, pastIndex, aheadOr, nextRecord, nextId, spacedTo, spaceRecord}
-use Rattle.mask.specs.Mask.{legal}
-use Rattle.rows.specs.Rows.{senseOf, movedBy}
-use Rattle.words.specs.Words.{begunBy, wordAt, testedCommand, testedWord, tested}
-use Rattle.words.specs.Status.{stored, statusFor}
-use Rattle.pack.specs.Shapes.{packFits}
-use Rattle.pack.specs.Tracks.{startOf, trackAt, withTrack}
-use Rattle.compare.specs.Compare.{compared}
-use Rattle.commands.specs.Commands.{readOf, writeOf, searchOf, commandOf, looks, searchesHome, worksHome, searchSelects, selects, searchGives, givesRecord, givesData}
-use Rattle.held.specs.Held.{freshStands, freshOrders, freshChannel, fresh, rested}
-use Rattle.outcome.specs.Outcome.{standing, sensing, placed, ordered, after, checked}
-use Rattle.work.specs.Work.{areaIf, named, namedBy, workReads, allRead, countsIn, gets, seeing, saw, idOf, sent}
-use Rattle.plan.specs.Plan.{searchWork, readWork, selectedOr, given, homeJob, onSearched, searchPlan, onRead, readPlan}
-use Rattle.search.specs.Search.{fieldOf, howOf, comparison, satisfies, found, searched, searchGot, searchBy, searches}
-use Rattle.read.specs.Read.{offered, isEmpty, moved, readGot, readBy, reads}
-use Rattle.control.specs.Control.{spaces, controls, puts}
-use Rattle.settle.specs.Settle.{unitStatus, endsWell, stride, wrongLength, lengthStatus, goesOn, onward, heldAfter, statusAfter, storageAfter}
-use Rattle.chain.specs.Act.{obeys, acts, planReads, commandReads}
-use Rattle.chain.specs.Step.{under, jumped, settled, obeyed, takes, step, run, testedReads, wordReads}
-use Rattle.chain.specs.Legal.{selectionFits}
-use Rattle.host.specs.Host.{storageFits, standsFit, ordersFit, channelFits, heldFits, guardOf, guards, beginning, firstWord, begins, starts, ran, goes}
 use Rattle.sound.specs.Sound.{Sound}
-use Rattle.sound.specs.Test.{allGaps, oneZero, recordOk, recordsOk, soundly}
-use Rattle.sound.specs.Tracks.{filled, home, count, zeroth, alone}
+use Rattle.sound.specs.Tracks.{alone}
 use Rattle.sound.proofs.Test.{soundly-sound}
 use Rattle.sound.proofs.Tracks.{sound-tracks}
 use Rattle.damage.specs.Damage.{ownCount, ownData, In, Damaged, any, partNo, sameArea}
 use Rattle.damage.proofs.Areas.{cell-recorded}
 use Rattle.claims.specs.Reading.{stocked, oneCount, oneData, hurtCount, hurtData, Reading, touches, NotEmpty}
+use Rattle.claims.proofs.Opened.{track, box}
 
 stocked-sound : Sound stocked
-unfolding stocked filled home count allGaps oneZero recordOk recordsOk soundly flagOfZero flagAfter areaCells readable areaBytes countsOf countsAt keyCells keyArea dataArea recordCells endBy agrees goodCells Area.checked laid Check.step feed byteBits bits check bytesOf cellsOf allBytes part
+unfolding track stocked
 stocked-sound = soundly-sound stocked refl
 
 pub reading : Reading
-unfolding part overlay bytesOf cellsOf allBytes marksFrom marks Check.step feed byteBits bits check Area.checked agrees goodCells laid areaCells readable areaBytes countsOf countsAt readCount keyCells keyArea dataArea scan hunt countFirst pastIndex aheadOr nextRecord nextId senseOf begunBy wordAt testedCommand testedWord tested packFits startOf trackAt withTrack legal readOf writeOf searchOf commandOf searchSelects selects searchGives givesRecord givesData freshStands freshOrders freshChannel fresh rested standing sensing placed ordered after checked areaIf named namedBy workReads allRead countsIn gets idOf searchWork readWork selectedOr given homeJob onSearched searchPlan onRead readPlan numberFrom compared fieldOf howOf comparison satisfies found searched searchGot searchBy searches endsWell stride wrongLength goesOn onward heldAfter storageAfter obeys acts planReads commandReads under jumped settled obeyed takes step run testedReads wordReads selectionFits storageFits standsFit ordersFit channelFits heldFits guardOf guards beginning firstWord begins starts ran goes filled home count zeroth alone stocked hurtCount
+unfolding box stocked hurtCount
 reading = record {
   sound = stocked-sound;
   sound-alone = sound-tracks alone (List·Memᴰ·head refl);
@@ -100,21 +74,21 @@ one-cell s x t i c h l b e B = record {
 
 -- cell 39 is the KL of record 1, byte 6 of its count area; cell 48 is byte 0 of its data area
 count-hurt : Damaged 48 oneCount stocked hurtCount
-unfolding hurtCount areaCells readable agrees goodCells Area.checked laid Check.step feed byteBits bits check bytesOf cellsOf allBytes part filled home count stocked
+unfolding track stocked hurtCount
 count-hurt =
     one-cell 48 oneCount stocked 39 (cellOf 3) (lit< tt, lit< tt) (lit< tt) refl refl
     (burst-parts 16 48 (bytesOf (areaCells stocked oneCount)) (bytesOf (areaCells hurtCount oneCount))
     (λ e. let z : _≡_ {A = ℕ} 2 3 = ap (λ (l : List ℕ). getD l 6 0) e in omega arith) refl refl)
 
 data-hurt : Damaged 0 oneData stocked hurtData
-unfolding hurtData areaCells readable agrees goodCells Area.checked laid Check.step feed byteBits bits check bytesOf cellsOf allBytes part filled home count stocked
+unfolding track stocked hurtData
 data-hurt =
     one-cell 0 oneData stocked 48 (cellOf 0) (lit< tt, lit< tt) (lit< tt) refl refl
     (burst-parts 16 0 (bytesOf (areaCells stocked oneData)) (bytesOf (areaCells hurtData oneData))
     (λ e. let z : _≡_ {A = ℕ} 1 0 = ap (λ (l : List ℕ). getD l 0 0) e in omega arith) refl refl)
 
 pub not-empty : NotEmpty
-unfolding touches any partNo rowOf sameArea hurtData part overlay bytesOf cellsOf allBytes marksFrom marks Check.step feed byteBits bits check Area.checked agrees goodCells laid areaCells readable areaBytes countsOf countsAt readCount keyCells keyArea dataArea scan hunt countFirst aheadOr nextRecord nextId spotFits senseOf movedBy begunBy wordAt testedCommand testedWord tested stored statusFor packFits startOf trackAt withTrack legal readOf writeOf searchOf commandOf looks worksHome searchesHome selects givesData freshStands freshOrders freshChannel fresh rested standing sensing placed ordered after checked areaIf named namedBy workReads allRead countsIn gets seeing saw idOf sent searchWork readWork given onSearched searchPlan onRead readPlan numberFrom compared fieldOf howOf comparison satisfies found searched searchGot searchBy searches offered isEmpty moved readGot readBy reads spacedTo spaceRecord spaces controls puts unitStatus endsWell stride wrongLength lengthStatus goesOn onward heldAfter statusAfter storageAfter obeys acts planReads commandReads under settled obeyed takes step run testedReads wordReads selectionFits storageFits standsFit ordersFit channelFits heldFits guardOf guards beginning firstWord begins starts ran goes filled home count stocked hurtCount
+unfolding box stocked hurtCount hurtData touches any sameArea partNo
 not-empty = record {
   sound = stocked-sound;
   count-own = ownCount (Marker 32) refl;

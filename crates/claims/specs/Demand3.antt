@@ -14,17 +14,18 @@ use Rattle.rows.specs.declared.Sense.{Sense}
 use Rattle.rows.specs.Rows.{sense}
 use Rattle.words.specs.declared.Word.{Word}
 use Rattle.words.specs.declared.Tested.the-variants.{Obey}
-use Rattle.words.specs.Words.{tested}
 use Rattle.words.specs.Status.{stored, statusFor}
 use Rattle.areas.specs.declared.Part.{Part}
 use Rattle.areas.specs.declared.Part.the-variants as Part
 use Rattle.areas.specs.declared.Area.{Area}
+use Rattle.pack.specs.declared.Cylinder.{Cylinder}
 use Rattle.pack.specs.declared.Shape.{Shape}
 use Rattle.pack.specs.Tracks.{trackNo, trackAt}
 use Rattle.held.specs.declared.Held.{Held}
 use Rattle.held.specs.Held.{rested}
 use Rattle.outcome.specs.Outcome.{sensing}
-use Rattle.chain.specs.Step.{World, world, step, run, wordReads, testedWrites}
+use Rattle.turn.specs.Turn.{Lies}
+use Rattle.chain.specs.Step.{World, world, next, step, run, wordReads, testedWrites}
 use Rattle.sound.specs.Sound.{Sound}
 use Rattle.damage.specs.Damage.{Own, Damaged, any, sameArea}
 use Rattle.host.specs.declared.Answer.the-variants.{ChainEnded}
@@ -51,12 +52,15 @@ pub record Harmed (n s : ℕ) (x : Area) (c c′ : List ℕ) : Type 0 where
 
 -- the next word is 19, 15, 1D, 05 or 0D
 unfoldable pub writes : World → Bool
-writes w = testedWrites (tested (w .storage) (w .held .channel .next) (w .held .channel .«after_tic»))
+writes w = testedWrites (next w)
 
--- the head is on track n, and the next word reads the area x of it
+-- an area under a head of this cylinder is the area x of track n
+unfoldable pub isIt : Shape → ℕ → Area → Cylinder → Lies → Bool
+isIt g n x c a = both (eqb n (trackNo g c (a .head))) (sameArea x (a .area))
+
+-- the next word reads that area
 unfoldable pub readsIt : Shape → ℕ → Area → World → Bool
-readsIt g n x w =
-    both (eqb n (trackNo g (w .held .stands .cylinder) (w .held .stands .head))) (any (sameArea x) (wordReads g w))
+readsIt g n x w = any (isIt g n x (w .held .stands .cylinder)) (wordReads g w)
 
 -- of the first k words that run none is a write and none reads that area
 unfoldable pub quiet : Shape → ℕ → Area → ℕ → World → Bool
@@ -125,7 +129,7 @@ dataCheck Part.Data = sense 0x08 0x00
 -- Unit Check, so that no search is satisfied, and the word's whole count left, so that no byte was moved; no cell is changed
 pub record DataChecked (x : Area) (w v : World) : Type 0 where
   pub word : Word
-  pub given : tested (w .storage) (w .held .channel .next) (w .held .channel .«after_tic») ≡ Obey word
+  pub given : next w ≡ Obey word
   pub held : v .held ≡ rested (sensing (w .held .stands) (dataCheck (x .part)))
   pub storage : v .storage ≡ stored (w .storage) (statusFor (w .held .channel .key) (w .held .channel .next) 0x0E 0x00 (word .count))
   pub cells : v .cells ≡ w .cells

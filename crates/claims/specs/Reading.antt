@@ -4,7 +4,7 @@
 use Prim.Native.Nat.{ℕ, zero, suc}
 use mathlib.Core.Path.{_≡_}
 use mathlib.Core.Bool.{Bool, true, false}
-use mathlib.Core.List.{List, [], _∷_, _++_}
+use mathlib.Core.List.{List, [], _∷_, _++_, map}
 use lib.ListN.{set, replicate}
 use Rattle.cells.specs.Choice.{pick, either}
 use Rattle.cells.specs.Bytes.{part, overlay}
@@ -16,6 +16,7 @@ use Rattle.areas.specs.declared.Area.{Area}
 use Rattle.areas.specs.declared.Part.the-variants.{Key, Data}
 use Rattle.areas.specs.Areas.{area, homeArea, zeroFirst, countArea}
 use Rattle.held.specs.Held.{fresh}
+use Rattle.turn.specs.Turn.{Lies}
 use Rattle.chain.specs.Step.{World, world, step, wordReads}
 use Rattle.host.specs.declared.Answer.the-variants.{ChainEnded}
 use Rattle.host.specs.Host.{Hears, starts, goes}
@@ -86,7 +87,7 @@ chained code count = word 0x31 128 0x40 5 ++ word 0x08 256 0x00 0 ++ oneWord cod
 
 -- the areas that a chain's next word reads, after so many words
 abbrev pub readsAfter : ℕ → World → List Area
-readsAfter n w = wordReads onePack (goes onePack n w .left)
+readsAfter n w = map (λ (a : Lies). a .area) (wordReads onePack (goes onePack n w .left))
 
 -- what each word reads, area by area and in order
 pub record Reading : Type 0 where
@@ -130,7 +131,7 @@ pub record Reading : Type 0 where
 unfoldable pub touches : Area → ℕ → World → Bool
 touches x zero w = false
 touches x (suc n) w =
-    pick (w .held .channel .going) (either (any (sameArea x) (wordReads onePack w)) (touches x n (step onePack w))) false
+    pick (w .held .channel .going) (either (any (λ (a : Lies). sameArea x (a .area)) (wordReads onePack w)) (touches x n (step onePack w))) false
 
 -- Search ID, satisfied by R0; Space Record, which passes record 1's marker; Read CKD of record 2
 abbrev pub pastOne : List ℕ → World

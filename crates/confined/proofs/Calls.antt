@@ -1,5 +1,4 @@
 -- What a host's call changes: a refusal nothing, a go what its allowance does, a start no cell, and of storage two bytes by answer 5.
--- Assumes nothing.
 use Prim.Native.Nat.{ℕ, _+_, _*_, _≤_}
 use mathlib.Core.Path.{_≡_, refl, ap, _∙_}
 use mathlib.Core.Bool.{Bool, true, false}
@@ -22,7 +21,7 @@ use Rattle.host.specs.declared.Guarded.{Guarded}
 use Rattle.host.specs.declared.Guarded.the-variants.{Passes, Answers}
 use Rattle.host.specs.Host.{Hears, hears, guardOf, guards, refusesStart, firstWord, begins, starts, ran, goes}
 use Rattle.host.proofs.Laws.{passes-legal}
-use Rattle.confined.specs.Confined.{among, untouched, unstored, spared, ifPasses, CallConfined}
+use Rattle.confined.specs.Confined.{among, sparesCell, sparesByte, sparesTrack, ifPasses, CallConfined}
 use Rattle.confined.proofs.Outside.{overlay-kept}
 use Rattle.confined.proofs.Runs.{run-confined}
 
@@ -99,9 +98,9 @@ module _ (g : Shape) (n : ℕ) (w : World) where
   pub call-confined : CallConfined g n w
   unfolding starts SameCell SameByte
   call-confined = record {
-    cells = λ i e. go-confined g n w (SameCell i) refl (untouched g i n w) (λ L f. run-confined g n w L .cells i f) e;
-    track = λ m i h e. go-confined g n w (SameCell (m * trackCells + i)) refl (spared g m n w) (λ L f. run-confined g n w L .track m i h f) e;
-    storage = λ i e. go-confined g n w (SameByte i) refl (unstored g i n w) (λ L f. run-confined g n w L .storage i f) e;
+    cells = λ i e. go-confined g n w (SameCell i) refl (sparesCell g i n w) (λ L f. run-confined g n w L .cells i f) e;
+    track = λ m i h e. go-confined g n w (SameCell (m * trackCells + i)) refl (sparesTrack g m n w) (λ L f. run-confined g n w L .track m i h f) e;
+    storage = λ i e. go-confined g n w (SameByte i) refl (sparesByte g i n w) (λ L f. run-confined g n w L .storage i f) e;
     start-cells = starts-cells w _ (start-by g w (guardOf g w));
     start-else = λ h. starts-else w _ (start-by g w (guardOf g w)) h;
     start-storage = λ i h. start-storage g w (guardOf g w) refl i h;

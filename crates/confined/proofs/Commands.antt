@@ -1,128 +1,136 @@
--- What one command changes: of the track only a write's cells; of storage what a read or Sense puts at its word's address, as many bytes as it moved.
--- A line a command. Assumes nothing.
+-- What one command changes: of the track only cells that its write may reach; of storage what a read or Sense puts at its word's address, as many bytes
+-- as it moved. What acts was licensed and not barred, and a Unit Check lays nothing.
 use Prim.Native.Nat.{ℕ, _+_, _≤_, min}
-use mathlib.Core.Path.{_≡_, refl, sym, ap, _∙_}
-use mathlib.Core.Bool.{false}
+use mathlib.Core.Path.{_≡_, refl, sym, ap, _∙_, subst}
+use mathlib.Core.Bool.{Bool, true, false, not, false≢true}
 use mathlib.Core.List.{List, []}
 use native.Mathlib.Omega.{arith}
-use lib.ListN.{length, getD, length-take}
+use lib.ListN.{length, getD, take, length-take}
+use lib.Seq.{take-nil}
 use Rattle.cells.specs.Choice.{both}
 use Rattle.cells.specs.Bytes.{overlay}
-use Rattle.cells.specs.Cells.{marks}
 use Rattle.cells.proofs.Laws.{overlay-none}
-use Rattle.rows.specs.declared.Row.{Row}
 use Rattle.words.specs.declared.Word.{Word}
+use Rattle.areas.specs.declared.Counts.{Counts}
 use Rattle.hunt.specs.Hunt.{Whole}
 use Rattle.pack.specs.declared.Shape.{Shape}
-use Rattle.commands.specs.declared.Control.{Control}
-use Rattle.commands.specs.declared.Control.the-variants.{NoOp, SenseBytes, Seeks, SetMask, SpaceRecord}
-use Rattle.commands.specs.declared.Read.{Read}
-use Rattle.commands.specs.declared.Write.{Write}
-use Rattle.commands.specs.declared.Command.{Command}
-use Rattle.commands.specs.declared.Command.the-variants.{Controls, Searches, Reads, Writes, Unknown}
-use Rattle.commands.specs.Commands.{commandOf}
+use Rattle.held.specs.declared.Selection.{Selection}
 use Rattle.held.specs.declared.Stands.{Stands}
 use Rattle.held.specs.declared.Orders.{Orders}
-use Rattle.work.specs.declared.Got.{Got}
-use Rattle.work.specs.declared.Got.the-variants.{Sees, Fails}
-use Rattle.work.specs.Work.{Seen}
-use Rattle.outcome.specs.declared.Ending.the-variants.{Check}
-use Rattle.plan.specs.declared.Job.{Job}
-use Rattle.plan.specs.declared.Plan.{Plan}
-use Rattle.plan.specs.declared.Plan.the-variants.{Refuses, Works}
-use Rattle.plan.specs.Plan.{readPlan}
-use Rattle.control.specs.Control.{senseBytes, senses, controls, puts}
-use Rattle.read.specs.Read.{ReadDone, offered, moved, readGot, readBy, reads}
-use Rattle.write.specs.Write.{writes}
-use Rattle.write.proofs.Kept.{writes-long}
-use Rattle.chain.specs.Legal.{Ordered}
-use Rattle.chain.proofs.Legal.{selected-on}
-use Rattle.chain.specs.Act.{unknown, obeys, acts}
-use Rattle.confined.specs.Confined.{among, mayChange, controlGives, gives, mayStore, CommandConfined}
+use Rattle.table.specs.declared.Write.{Write}
+use Rattle.table.specs.declared.Write.the-variants as Write
+use Rattle.table.specs.declared.Act.{Act}
+use Rattle.table.specs.declared.Act.the-variants as Act
+use Rattle.table.specs.declared.Rule.{Rule}
+use Rattle.table.specs.Table.{ruleOf}
+use Rattle.turn.specs.Turn.{Tracks, Piece, Moves, None, Gives, Takes, given, movingOf, wants, Turn, toldOf, laid, isCheck, checks}
+use Rattle.command.specs.declared.Task.{Task}
+use Rattle.command.specs.Command.{Sight, sight, allRecorded, goesOver, writesOver, lays, acts, jobOf, command}
+use Rattle.frame.specs.Frame.{laysCells, givesBytes}
+use Rattle.frame.proofs.Acts.{acts-keeps}
+use Rattle.frame.proofs.Turns.{check-lays, only-reads-give}
+use Rattle.frame.proofs.Here.{lays-here}
+use Rattle.channel.specs.Channel.{placed, moved}
+use Rattle.confined.specs.Confined as Confined
+use Rattle.confined.specs.Confined.{among, reaches, reachesFrom, actReaches, mayChange, mayStore, leaves, CommandConfined}
 use Rattle.confined.proofs.Outside.{overlay-kept}
-use Rattle.confined.proofs.Written.{writes-kept}
-use Rattle.confined.proofs.Checks.{write-checks, write-unlicensed, write-barred}
+use Rattle.confined.proofs.Within.{Within, within-by, within-long, within-kept, within-on, write-within}
+use Rattle.confined.proofs.Acting as Acting
+use Rattle.confined.proofs.Acting.{onSelection, aptWrite, apt-write, Acting, acting-takes, obeys-all}
 
-module _ (g : Shape) (s : Stands) (o : Orders) (w : Word) (st t : List ℕ) where
-  -- ---- cells
+-- ---- cells
 
-  cells-by : Whole t → (i : ℕ) (c : Command) → mayChange c o t i ≡ false → getD (obeys g c s o w st t .track) i 0 ≡ getD t i 0
-  unfolding obeys unknown mayChange
-  cells-by h i (Controls c) e = refl
-  cells-by h i (Searches c) e = refl
-  cells-by h i (Reads c) e = refl
-  cells-by h i (Writes k) e = writes-kept t h k s o w st i e
-  cells-by h i Unknown e = refl
+module _ (g : Shape) (t : Tracks) (s : Stands) (o : Orders) (code : ℕ) (v : List ℕ) (wh : Whole (t (s .head))) where
+  module _ (r : Rule) (apt : (k : Write) → r .act ≡ Act.Write k → aptWrite k r ≡ true) (k : Task) (n : Counts) (A : Acting t s o r k n) where
+    abbrev x : Sight
+    x = sight t (jobOf code r s o k n) v
 
-  long-by : Whole t → Ordered (marks t) o → (c : Command) → length (obeys g c s o w st t .track) ≡ length t
-  unfolding obeys unknown
-  long-by h k (Controls c) = refl
-  long-by h k (Searches c) = refl
-  long-by h k (Reads c) = refl
-  long-by h k (Writes c) = writes-long c s o w t h st (selected-on (marks t) o k)
-  long-by h k Unknown = refl
+    -- a write works on the record that it takes
+    selected-reaches : (w : Write) → onSelection r ≡ true → (i : ℕ) → reaches w (k .place) n i ≡ reachesFrom w (t (s .head)) (o .selection) i
+    unfolding reachesFrom
+    selected-reaches w e i = go (acting-takes t s o r k n A e)
+      where
+        go : Acting.Takes t s o r k n (o .selection) → reaches w (k .place) n i ≡ reachesFrom w (t (s .head)) (o .selection) i
+        go (Acting.takes spot p q c) = (λ j. reaches w (q j) (c j) i) ∙ ap (λ (y : Selection). reachesFrom w (t (s .head)) y i) (sym p)
 
-  checks-by : (row : Row) (c : Command) → obeys g c s o w st t .done .ending ≡ Check row → obeys g c s o w st t .track ≡ t
-  unfolding obeys unknown
-  checks-by row (Controls c) e = refl
-  checks-by row (Searches c) e = refl
-  checks-by row (Reads c) e = refl
-  checks-by row (Writes k) e = write-checks k s o w st t row e
-  checks-by row Unknown e = refl
+    write-reaches : (w : Write) → aptWrite w r ≡ true → (i : ℕ)
+        → reaches w (k .place) n i ≡ reachesFrom w (t (s .head)) (Confined.takes w (o .selection)) i
+    unfolding aptWrite Confined.takes reachesFrom reaches
+    write-reaches Write.HomeAddress e i = refl
+    write-reaches Write.R0 e i = refl
+    write-reaches Write.CountKeyData e i = selected-reaches Write.CountKeyData e i
+    write-reaches (Write.Update key) e i = selected-reaches (Write.Update key) e i
 
-  -- a command that is this write
-  write-track : (k : Write) → commandOf (w .code) ≡ Writes k → acts g s o w st t .track ≡ writes k s o w st t .track
-  unfolding acts obeys
-  write-track k e = ap (λ (c : Command). obeys g c s o w st t .track) e
+    -- an update sees whether its areas are byte cells
+    goes-over : (w : Write) → r .act ≡ Act.Write w → x .recorded ≡ allRecorded (t (s .head)) (writesOver w (k .place) n)
+    unfolding sight goesOver
+    goes-over w e = λ j. allRecorded (t (A .here j)) (goesOver (e j) (k .place) n)
+
+    acts-within : (a : Act) → r .act ≡ a → Within (actReaches a (t (s .head)) (o .selection)) (acts g a x .lays)
+    unfolding actReaches laysCells acts sight
+    acts-within (Act.Control a) e = subst (Within _) (sym (acts-keeps x g (Act.Control a) .still refl)) tt
+    acts-within (Act.Search h) e = subst (Within _) (sym (acts-keeps x g (Act.Search h) .still refl)) tt
+    acts-within (Act.Read c) e = subst (Within _) (sym (acts-keeps x g (Act.Read c) .still refl)) tt
+    acts-within (Act.Write w) e =
+        within-by _ _ (write-reaches w (apt w e)) (lays w x .lays) (write-within x (t (s .head)) (wh .long) w (goes-over w e))
+
+    -- it was licensed, and not barred
+    may-is : (i : ℕ) → actReaches (r .act) (t (s .head)) (o .selection) i ≡ mayChange r o (t (s .head)) i
+    unfolding mayChange
+    may-is i = λ j. both (sym (A .licence) j) (both (not (sym (A .mask) j)) (actReaches (r .act) (t (s .head)) (o .selection) i))
+
+    acting-within : Within (mayChange r o (t (s .head))) (acts g (r .act) x .lays)
+    acting-within = within-by _ _ may-is (acts g (r .act) x .lays) (acts-within (r .act) refl)
+
+  pub command-within : Within (mayChange (ruleOf code) o (t (s .head))) (command g t s o code v .lays)
+  unfolding command checks
+  command-within =
+      obeys-all t s o (ruleOf code) g code v (λ (y : Turn). Within (mayChange (ruleOf code) o (t (s .head))) (y .lays)) (λ l row. tt)
+      (acting-within (ruleOf code) (apt-write code))
+
+module _ (g : Shape) (t : Tracks) (s : Stands) (o : Orders) (code : ℕ) (v : List ℕ) where
+  pub nothing-laid : command g t s o code v .lays ≡ [] → leaves g t s o code v ≡ t (s .head)
+  unfolding leaves laid
+  nothing-laid e = ap (λ (l : List Piece). laid l (t (s .head))) e
+
+  -- what does not act lays nothing
+  never-acts : ((k : Task) (n : Counts) → Acting t s o (ruleOf code) k n → ⊥) → leaves g t s o code v ≡ t (s .head)
+  unfolding command checks
+  never-acts f = nothing-laid (obeys-all t s o (ruleOf code) g code v (λ (y : Turn). y .lays ≡ []) (λ l row. refl) (λ k n A. absurd (f k n A)))
 
   -- ---- storage
 
-  module _ (room : w .address + w .count ≤ length st) (i : ℕ) where
-    -- so many bytes put at the word's address
-    put-kept : (v : List ℕ) (n : ℕ) → n ≡ length v → among (w .address) n i ≡ false → getD (overlay st (w .address) v) i 0 ≡ getD st i 0
-    put-kept v n l e = overlay-kept st (w .address) v i (omega arith) (ap (λ (k : ℕ). among (w .address) k i) (sym l) ∙ e)
+  module _ (w : Word) (st : List ℕ) (room : w .address + w .count ≤ length st) (i : ℕ) where
+    nothing-put : (y : List ℕ) → y ≡ [] → getD (placed st w y) i 0 ≡ getD st i 0
+    unfolding placed
+    nothing-put y e =
+        ap (λ (z : List ℕ). getD (overlay st (w .address) z) i 0) (ap (take (w .count)) e ∙ take-nil (w .count))
+        ∙ ap (λ (z : List ℕ). getD z i 0) (overlay-none st (w .address))
 
-    nothing-put : getD (overlay st (w .address) []) i 0 ≡ getD st i 0
-    nothing-put = ap (λ (x : List ℕ). getD x i 0) (overlay-none st (w .address))
+    -- as many bytes as were moved
+    put-kept : (m : Moves) → among (w .address) (min (w .count) (wants (movingOf m))) i ≡ false → getD (placed st w (given m)) i 0 ≡ getD st i 0
+    unfolding placed given wants movingOf
+    put-kept None e = nothing-put [] refl
+    put-kept (Gives y) e =
+        overlay-kept st (w .address) (take (w .count) y) i (omega arith) (ap (λ (k : ℕ). among (w .address) k i) (length-take (w .count) y) ∙ e)
+    put-kept (Takes n) e = nothing-put [] refl
 
-    control-stores : (c : Control) → both (controlGives c) (among (w .address) (controls g c s o w st (marks t) .moved) i) ≡ false
-        → getD (overlay st (w .address) (puts c s w)) i 0 ≡ getD st i 0
-    unfolding controlGives controls senses senseBytes puts
-    control-stores NoOp e = nothing-put
-    control-stores SenseBytes e = put-kept _ (min (w .count) 6) (sym (length-take (w .count) (senseBytes s))) e
-    control-stores (Seeks k) e = nothing-put
-    control-stores SetMask e = nothing-put
-    control-stores SpaceRecord e = nothing-put
+    stores-by : (b : Bool) → givesBytes (ruleOf code .act) ≡ b → both b (among (w .address) (moved w (toldOf (command g t s o code v))) i) ≡ false
+        → getD (placed st w (given (command g t s o code v .moves))) i 0 ≡ getD st i 0
+    unfolding moved toldOf
+    stores-by true e f = put-kept (command g t s o code v .moves) f
+    stores-by false e f = nothing-put _ (only-reads-give g t s o code v e)
 
-    ReadKept : ReadDone → Type 0
-    ReadKept x = among (w .address) (x .done .moved) i ≡ false → getD (x .storage) i 0 ≡ getD st i 0
-
-    got-stores : (c : Read) (j : Job) (x : Seen) (y : Got) → ReadKept (readGot c s o w st j x y)
-    unfolding ReadKept readGot moved
-    got-stores c j x (Sees n) e = put-kept _ (min (w .count) (length (offered c n x))) (sym (length-take (w .count) (offered c n x))) e
-    got-stores c j x (Fails row) e = refl
-
-    read-stores : (c : Read) (p : Plan) → ReadKept (readBy c s o w st t p)
-    unfolding ReadKept readBy
-    read-stores c (Refuses row) e = refl
-    read-stores c (Works j) e = got-stores c j _ _ e
-
-    storage-by : (c : Command) → both (gives c) (among (w .address) (obeys g c s o w st t .done .moved) i) ≡ false
-        → getD (obeys g c s o w st t .storage) i 0 ≡ getD st i 0
-    unfolding obeys unknown gives reads ReadKept
-    storage-by (Controls c) e = control-stores c e
-    storage-by (Searches c) e = refl
-    storage-by (Reads c) e = read-stores c (readPlan (marks t) s o c) e
-    storage-by (Writes k) e = refl
-    storage-by Unknown e = refl
-
-  pub command-confined : Whole t → w .address + w .count ≤ length st → CommandConfined g s o w st t
-  unfolding acts mayStore
-  command-confined h room = record {
-    cells = λ i e. cells-by h i (commandOf (w .code)) e;
-    long = λ k. long-by h k (commandOf (w .code));
-    unlicensed = λ k e f. write-track k e ∙ write-unlicensed k s o w st t f;
-    barred = λ k e f. write-track k e ∙ write-barred k s o w st t f;
-    checks = λ row e. checks-by row (commandOf (w .code)) e;
-    storage = λ i e. storage-by room i (commandOf (w .code)) e;
-  }
+  pub command-confined : Whole (t (s .head)) → CommandConfined g t s o code v
+  unfolding leaves mayStore isCheck
+  command-confined wh =
+      let in-reach = command-within g t s o code v wh in
+      record {
+        cells = λ i e. within-kept _ _ (t (s .head)) in-reach (wh .long) i e;
+        inside = within-on (s .head) (mayChange (ruleOf code) o (t (s .head))) (command g t s o code v .lays) (lays-here g t s o code v) in-reach;
+        long = within-long _ _ (t (s .head)) in-reach (wh .long) ∙ sym (wh .long);
+        unlicensed = λ e. never-acts (λ k n A. false≢true (sym e ∙ A .licence));
+        barred = λ e. never-acts (λ k n A. false≢true (sym (A .mask) ∙ e));
+        checks = λ row e. nothing-laid (check-lays g t s o code v (ap isCheck e));
+        storage = λ w st room i e. stores-by w st room i (givesBytes (ruleOf code .act)) refl e;
+      }

@@ -1,8 +1,9 @@
 -- What is claimed, proved.
 pub mod Outside
-pub mod Written
-pub mod Checks
+pub mod Within
+pub mod Acting
 pub mod Commands
+pub mod Room
 pub mod Stepped
 pub mod Runs
 pub mod Calls

@@ -1,4 +1,4 @@
--- Outside of what is laid over nothing changes, by the test of the claims. Assumes nothing.
+-- Outside of what is laid over nothing changes, by the test of the claims.
 use Prim.Native.Nat.{ℕ, _+_, _<_, _≤_}
 use mathlib.Core.Path.{_≡_, refl, sym, ap, _∙_}
 use mathlib.Core.Bool.{Bool, true, false, false≢true}
@@ -9,11 +9,16 @@ use native.Mathlib.Decide.{decLt}
 use lib.ListN.{length, getD}
 use lib.Dec.{ltb, leb}
 use borrow.Author.Tests.{ltb-true, ltb-false, leb-true, le-leb, lt-leb, le-ltb}
-use Rattle.cells.specs.Choice.{both, either}
+use Rattle.cells.specs.Choice.{pick, both, either}
 use Rattle.cells.specs.Bytes.{overlay}
 use Rattle.cells.proofs.Laws.{getD-part, part-overlay, overlay-before, overlay-behind}
 use Rattle.cells.proofs.Tests.{first-of, second-of}
 use Rattle.confined.specs.Confined.{among}
+
+-- what holds of each side of a choice, by its test, holds of the choice
+pub pick-by : {A : Type 0} (P : A → Type 0) (b : Bool) {x y : A} → (b ≡ true → P x) → (b ≡ false → P y) → P (pick b x y)
+pick-by P true p q = p refl
+pick-by P false p q = q refl
 
 -- neither of two tests
 pub neither : (a b : Bool) → either a b ≡ false → (a ≡ false) × (b ≡ false)

@@ -1,5 +1,4 @@
 -- What an allowance changes: one word after another, each from a legal world. On a track where no write runs no word may change a cell.
--- Assumes nothing.
 use Prim.Native.Nat.{ℕ, zero, suc, _+_, _-_, _*_, _<_, _≤_}
 use mathlib.Core.Path.{_≡_, refl, sym, ap, _∙_}
 use mathlib.Core.Bool.{Bool, true, false, not, false≢true}
@@ -13,61 +12,57 @@ use borrow.Author.Tests.{not-true, eqb-false}
 use Rattle.cells.specs.Choice.{pick, both}
 use Rattle.cells.specs.Cells.{trackCells}
 use Rattle.cells.proofs.Marks.{both-never}
-use Rattle.cells.proofs.Tests.{first-of, second-of, both-of}
+use Rattle.cells.proofs.Tests.{first-of, second-of}
 use Rattle.words.specs.declared.Tested.{Tested}
 use Rattle.words.specs.declared.Tested.the-variants.{Obey, Jump, Bad}
 use Rattle.pack.specs.declared.Shape.{Shape}
 use Rattle.pack.specs.Tracks.{trackNo, startOf}
-use Rattle.commands.specs.declared.Command.{Command}
-use Rattle.commands.specs.declared.Command.the-variants.{Controls, Searches, Reads, Writes, Unknown}
-use Rattle.commands.specs.Commands.{commandOf}
+use Rattle.held.specs.declared.Selection.{Selection}
 use Rattle.held.specs.declared.Orders.{Orders}
-use Rattle.chain.specs.Step.{World, under, step, run, isWrite, testedWrites}
+use Rattle.table.specs.declared.Act.{Act}
+use Rattle.table.specs.declared.Act.the-variants as Act
+use Rattle.table.specs.declared.Rule.{Rule}
+use Rattle.table.specs.Table.{ruleOf}
+use Rattle.command.specs.Command.{licensed}
+use Rattle.chain.specs.Step.{World, under, selected, next, step, run, isWrite, testedWrites}
 use Rattle.chain.specs.Legal.{Legal}
 use Rattle.chain.proofs.Legal.{step-legal}
-use Rattle.confined.specs.Confined.{among, mayChange, next, selected, wordChanges, changes, stores, untouched, unstored, writesOn, spared, RunConfined}
+use Rattle.confined.specs.Confined.{among, actReaches, bars, mayChange, wordChanges, changes, spares, sparesCell, sparesByte, writesOn, sparesTrack, RunConfined}
 use Rattle.confined.proofs.Outside.{out-test}
 use Rattle.confined.proofs.Stepped.{none-elsewhere, step-confined}
 
 module _ (g : Shape) where
-  cells-run : (i n : ℕ) (w : World) → Legal g w → untouched g i n w ≡ true → getD (run g n w .cells) i 0 ≡ getD (w .cells) i 0
-  unfolding run untouched
-  cells-run i zero w L e = refl
-  cells-run i (suc n) w L e = go (w .held .channel .going) e (λ f. cells-run i n (step g w) (step-legal g w L) f)
+  -- what every word keeps of which the test does not hold
+  run-keeps : (f : World → Bool) (at : World → ℕ) → ((w : World) → Legal g w → f w ≡ false → at (step g w) ≡ at w)
+      → (n : ℕ) (w : World) → Legal g w → spares g f n w ≡ true → at (run g n w) ≡ at w
+  unfolding run spares
+  run-keeps f at keeps zero w L e = refl
+  run-keeps f at keeps (suc n) w L e = go (w .held .channel .going) e (run-keeps f at keeps n (step g w) (step-legal g w L))
     where
-      go : (b : Bool) → pick b (both (not (changes g w i)) (untouched g i n (step g w))) true ≡ true
-          → (untouched g i n (step g w) ≡ true → getD (run g n (step g w) .cells) i 0 ≡ getD (step g w .cells) i 0)
-          → getD (pick b (run g n (step g w)) w .cells) i 0 ≡ getD (w .cells) i 0
-      go false e f = refl
-      go true e f =
-          f (second-of (not (changes g w i)) _ e) ∙ step-confined g w L .cells i (not-true (changes g w i) (first-of (not (changes g w i)) _ e))
-
-  storage-run : (i n : ℕ) (w : World) → Legal g w → unstored g i n w ≡ true → getD (run g n w .storage) i 0 ≡ getD (w .storage) i 0
-  unfolding run unstored
-  storage-run i zero w L e = refl
-  storage-run i (suc n) w L e = go (w .held .channel .going) e (λ f. storage-run i n (step g w) (step-legal g w L) f)
-    where
-      go : (b : Bool) → pick b (both (not (stores g w i)) (unstored g i n (step g w))) true ≡ true
-          → (unstored g i n (step g w) ≡ true → getD (run g n (step g w) .storage) i 0 ≡ getD (step g w .storage) i 0)
-          → getD (pick b (run g n (step g w)) w .storage) i 0 ≡ getD (w .storage) i 0
-      go false e f = refl
-      go true e f =
-          f (second-of (not (stores g w i)) _ e) ∙ step-confined g w L .storage i (not-true (stores g w i) (first-of (not (stores g w i)) _ e))
+      go : (b : Bool) → pick b (both (not (f w)) (spares g f n (step g w))) true ≡ true
+          → (spares g f n (step g w) ≡ true → at (run g n (step g w)) ≡ at (step g w)) → at (pick b (run g n (step g w)) w) ≡ at w
+      go true e h = h (second-of (not (f w)) _ e) ∙ keeps w L (not-true (f w) (first-of (not (f w)) _ e))
+      go false e h = refl
 
   -- ---- a track on which no write runs
 
-  no-write : (c : Command) (o : Orders) (t : List ℕ) (i : ℕ) → isWrite c ≡ false → mayChange c o t i ≡ false
-  unfolding isWrite mayChange
-  no-write (Controls c) o t i e = refl
-  no-write (Searches c) o t i e = refl
-  no-write (Reads c) o t i e = refl
-  no-write (Writes k) o t i e = absurd (false≢true (sym e))
-  no-write Unknown o t i e = refl
+  no-write : (a : Act) (t : List ℕ) (x : Selection) (i : ℕ) → isWrite a ≡ false → actReaches a t x i ≡ false
+  unfolding isWrite actReaches
+  no-write (Act.Control a) t x i e = refl
+  no-write (Act.Search h) t x i e = refl
+  no-write (Act.Read c) t x i e = refl
+  no-write (Act.Write k) t x i e = absurd (false≢true (sym e))
+
+  never-may : (r : Rule) (o : Orders) (t : List ℕ) (i : ℕ) → isWrite (r .act) ≡ false → mayChange r o t i ≡ false
+  unfolding mayChange
+  never-may r o t i e =
+      ap (λ (b : Bool). both (licensed (r .licence) o) (both (not (bars (r .bar) (o .mask))) b)) (no-write (r .act) t (o .selection) i e)
+      ∙ ap (both (licensed (r .licence) o)) (both-never (not (bars (r .bar) (o .mask)))) ∙ both-never (licensed (r .licence) o)
 
   word-spares : (w : World) (x : Tested) (i : ℕ) → testedWrites x ≡ false → wordChanges g w i x ≡ false
   unfolding testedWrites wordChanges
   word-spares w (Obey d) i e =
-      ap (both (among (under g (w .held)) trackCells i)) (no-write (commandOf (d .code)) (w .held .orders) (selected g w) (i - under g (w .held)) e)
+      ap (both (among (under g (w .held)) trackCells i)) (never-may (ruleOf (d .code)) (w .held .orders) (selected g w) (i - under g (w .held)) e)
       ∙ both-never (among (under g (w .held)) trackCells i)
   word-spares w (Jump a) i e = refl
   word-spares w (Bad cause) i e = refl
@@ -87,31 +82,21 @@ module _ (g : Shape) where
       out-test _ trackCells (m * trackCells + i)
       (apart m (trackNo g (w .held .stands .cylinder) (w .held .stands .head)) i (eqb-false _ _ e) h)
 
-  spares : (w : World) (m i : ℕ) → i < trackCells → writesOn g m w ≡ false → changes g w (m * trackCells + i) ≡ false
+  off-writes : (w : World) (m i : ℕ) → i < trackCells → writesOn g m w ≡ false → changes g w (m * trackCells + i) ≡ false
   unfolding writesOn changes
-  spares w m i h e = go (eqb m (trackNo g (w .held .stands .cylinder) (w .held .stands .head))) refl e
+  off-writes w m i h e = go (eqb m (trackNo g (w .held .stands .cylinder) (w .held .stands .head))) refl e
     where
       go : (b : Bool) → eqb m (trackNo g (w .held .stands .cylinder) (w .held .stands .head)) ≡ b → both b (testedWrites (next w)) ≡ false
           → wordChanges g w (m * trackCells + i) (next w) ≡ false
       go true p f = word-spares w (next w) (m * trackCells + i) f
       go false p f = none-elsewhere g w (next w) (m * trackCells + i) (off-spares w m i h p)
 
-  spared-untouched : (m i : ℕ) → i < trackCells → (n : ℕ) (w : World) → spared g m n w ≡ true → untouched g (m * trackCells + i) n w ≡ true
-  unfolding spared untouched
-  spared-untouched m i h zero w e = refl
-  spared-untouched m i h (suc n) w e = go (w .held .channel .going) e (spared-untouched m i h n (step g w))
-    where
-      go : (b : Bool) → pick b (both (not (writesOn g m w)) (spared g m n (step g w))) true ≡ true
-          → (spared g m n (step g w) ≡ true → untouched g (m * trackCells + i) n (step g w) ≡ true)
-          → pick b (both (not (changes g w (m * trackCells + i))) (untouched g (m * trackCells + i) n (step g w))) true ≡ true
-      go false e f = refl
-      go true e f =
-          both-of (ap not (spares w m i h (not-true (writesOn g m w) (first-of (not (writesOn g m w)) _ e))))
-          (f (second-of (not (writesOn g m w)) _ e))
-
   pub run-confined : (n : ℕ) (w : World) → Legal g w → RunConfined g n w
+  unfolding sparesCell sparesByte sparesTrack
   run-confined n w L = record {
-    cells = λ i e. cells-run i n w L e;
-    track = λ m i h e. cells-run (m * trackCells + i) n w L (spared-untouched m i h n w e);
-    storage = λ i e. storage-run i n w L e;
+    cells = λ i e. run-keeps _ (λ (v : World). getD (v .cells) i 0) (λ v K f. step-confined g v K .cells i f) n w L e;
+    track = λ m i h e.
+        run-keeps _ (λ (v : World). getD (v .cells) (m * trackCells + i) 0)
+        (λ v K f. step-confined g v K .cells (m * trackCells + i) (off-writes v m i h f)) n w L e;
+    storage = λ i e. run-keeps _ (λ (v : World). getD (v .storage) i 0) (λ v K f. step-confined g v K .storage i f) n w L e;
   }

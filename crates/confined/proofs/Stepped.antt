@@ -1,15 +1,15 @@
 -- What the next word changes: its command changes the track under the head and no other; its bytes are stored, and the status word where the chain
--- ends. Assumes nothing.
+-- ends.
 use Prim.Native.Nat.{ℕ, _+_, _-_, _<_, _≤_}
 use mathlib.Core.Path.{_≡_, refl, sym, ap, _∙_, subst}
 use mathlib.Core.Bool.{Bool, true, false, not}
 use mathlib.Core.List.{List}
 use native.Mathlib.Omega.{arith}
-use lib.ListN.{length, getD}
+use lib.ListN.{length, getD, length-take}
 use Rattle.cells.specs.Choice.{pick, both}
 use Rattle.cells.specs.Bytes.{overlay}
 use Rattle.cells.specs.Cells.{trackCells}
-use Rattle.cells.proofs.Laws.{getD-part, overlay-same}
+use Rattle.cells.proofs.Laws.{getD-part, length-overlay, overlay-same}
 use Rattle.rows.specs.declared.Row.{Row}
 use Rattle.words.specs.declared.Word.{Word}
 use Rattle.words.specs.declared.Status.{Status}
@@ -19,15 +19,16 @@ use Rattle.words.specs.Status.{statusAt, statusBytes, stored}
 use Rattle.words.proofs.Obeys.{TestedIn, tested-in}
 use Rattle.pack.specs.declared.Shape.{Shape}
 use Rattle.pack.specs.Tracks.{trackAt, withTrack}
-use Rattle.pack.proofs.Laws.{start-inside, others-kept}
-use Rattle.commands.specs.Commands.{commandOf}
+use Rattle.pack.proofs.Laws.{others-kept}
 use Rattle.outcome.specs.declared.Ending.the-variants.{Check}
-use Rattle.settle.specs.Settle.{goesOn, statusAfter, storageAfter}
-use Rattle.chain.specs.Step.{World, under, stops, settled, obeyed, takes, step}
+use Rattle.table.specs.Table.{ruleOf}
+use Rattle.turn.specs.Turn.{Turn, given, toldOf, laid}
+use Rattle.channel.specs.Channel.{fetched, placed, moved, goesOn, statusAfter, withStatus, storageAfter}
+use Rattle.chain.specs.Step.{World, under, selected, next, tracksOf, stops, turnOf, settled, obeyed, takes, step}
 use Rattle.chain.specs.Legal.{Legal}
-use Rattle.chain.proofs.Legal.{Fine, acts-fine, track-whole, step-sizes}
-use Rattle.confined.specs.Confined.{among, mayChange, mayStore, CommandConfined, next, selected, does, wordChanges, changes, inStatus, wordStores, stores, StepConfined}
-use Rattle.confined.proofs.Outside.{neither, out-of, out-test, in-between, overlay-kept, overlay-inside}
+use Rattle.chain.proofs.Legal.{inside, track-whole, turn-left, put-back, step-sizes}
+use Rattle.confined.specs.Confined.{among, mayChange, mayStore, leaves, CommandConfined, wordChanges, changes, inStatus, wordStores, stores, StepConfined}
+use Rattle.confined.proofs.Outside.{pick-by, neither, out-of, out-test, in-between, overlay-kept, overlay-inside}
 use Rattle.confined.proofs.Commands.{command-confined}
 
 -- the status word
@@ -39,7 +40,7 @@ stored-kept s x i h e = overlay-kept s statusAt (statusBytes x) i h e
 pub none-elsewhere : (g : Shape) (w : World) (x : Tested) (i : ℕ) → among (under g (w .held)) trackCells i ≡ false → wordChanges g w i x ≡ false
 unfolding wordChanges
 none-elsewhere g w (Obey d) i e =
-    ap (λ (b : Bool). both b (mayChange (commandOf (d .code)) (w .held .orders) (selected g w) (i - under g (w .held)))) e
+    ap (λ (b : Bool). both b (mayChange (ruleOf (d .code)) (w .held .orders) (selected g w) (i - under g (w .held)))) e
 none-elsewhere g w (Jump a) i e = refl
 none-elsewhere g w (Bad cause) i e = refl
 
@@ -47,17 +48,9 @@ module _ (g : Shape) (w : World) (L : Legal g w) where
   abbrev start : ℕ
   start = under g (w .held)
 
-  inside : start + trackCells ≤ length (w .cells)
-  unfolding under
-  inside = start-inside g _ _ (L .standing .on) (w .cells) (L .whole)
-
-  -- ---- the pack with the track put back
+  -- ---- the pack with a track put back: the cells of the others, and a cell that the track keeps
 
   module _ (u : List ℕ) (long : length u ≡ trackCells) (i : ℕ) where
-    put-elsewhere : among start trackCells i ≡ false → getD (withTrack (w .cells) start u) i 0 ≡ getD (w .cells) i 0
-    put-elsewhere e = others-kept (w .cells) u start i long inside (out-of start trackCells i e)
-
-    -- a cell that the track keeps
     put-same : among start trackCells i ≡ true → getD u (i - start) 0 ≡ getD (selected g w) (i - start) 0
         → getD (withTrack (w .cells) start u) i 0 ≡ getD (w .cells) i 0
     unfolding withTrack selected trackAt
@@ -66,48 +59,55 @@ module _ (g : Shape) (w : World) (L : Legal g w) where
         let at : start + (i - start) ≡ i = omega (arith, b .0) in
         let j : i - start < 4096 = omega (arith, b .0, b .1) in
         ap (λ (m : ℕ). getD (overlay (w .cells) start u) m 0) (sym at)
-        ∙ overlay-inside (w .cells) start u (i - start) (omega (arith, long, inside)) (omega (arith, long)) ∙ k
+        ∙ overlay-inside (w .cells) start u (i - start) (omega (arith, long, inside g w L)) (omega (arith, long)) ∙ k
         ∙ getD-part (w .cells) start 4096 (i - start) j ∙ ap (λ (m : ℕ). getD (w .cells) m 0) at
+
+    put-kept : (f : ℕ → Bool) → ((j : ℕ) → f j ≡ false → getD u j 0 ≡ getD (selected g w) j 0) → both (among start trackCells i) (f (i - start)) ≡ false
+        → getD (withTrack (w .cells) start u) i 0 ≡ getD (w .cells) i 0
+    put-kept f kept =
+        pick-by (λ (b : Bool). b ≡ false → getD (withTrack (w .cells) start u) i 0 ≡ getD (w .cells) i 0) (among start trackCells i)
+        (λ p e. put-same p (kept (i - start) e)) (λ p e. others-kept (w .cells) u start i long (inside g w L) (out-of start trackCells i p))
 
   -- ---- a word that is obeyed
 
   module _ (d : Word) (r : d .address + d .count ≤ length (w .storage)) where
-    fine : Fine g (w .held .stands) (length (w .storage)) (length (selected g w)) (does g w d)
-    unfolding does selected
-    fine = acts-fine g (w .held .stands) (L .standing) (w .held .orders) _ (L .ordered) d (w .storage) (record { area = r }) (track-whole g w L)
+    abbrev x : Turn
+    x = turnOf g w d
 
-    confined : CommandConfined g (w .held .stands) (w .held .orders) d (w .storage) (selected g w)
-    unfolding selected
-    confined = command-confined g (w .held .stands) (w .held .orders) d (w .storage) _ (track-whole g w L) r
+    confined : CommandConfined g (tracksOf g (w .cells) (w .held .stands .cylinder)) (w .held .stands) (w .held .orders) (d .code) (fetched (w .storage) d)
+    unfolding selected tracksOf under
+    confined = command-confined g _ _ _ _ _ (track-whole g w L)
 
-    whole : length (does g w d .track) ≡ trackCells
-    unfolding selected
-    whole = fine .track ∙ track-whole g w L .long
+    back : obeyed g w d .cells ≡ withTrack (w .cells) start (laid (x .lays) (selected g w))
+    unfolding obeyed settled
+    back = put-back g w L d x (turn-left g w L d) (record { area = r })
 
     obeyed-cells : (i : ℕ) → wordChanges g w i (Obey d) ≡ false → getD (obeyed g w d .cells) i 0 ≡ getD (w .cells) i 0
-    unfolding wordChanges obeyed settled does selected
-    obeyed-cells i e = go (among start trackCells i) refl e
-      where
-        go : (b : Bool) → among start trackCells i ≡ b → both b (mayChange (commandOf (d .code)) (w .held .orders) (selected g w) (i - start)) ≡ false
-            → getD (withTrack (w .cells) start (does g w d .track)) i 0 ≡ getD (w .cells) i 0
-        go true p e = put-same (does g w d .track) whole i p (confined .cells (i - start) e)
-        go false p e = put-elsewhere (does g w d .track) whole i p
+    unfolding wordChanges selected tracksOf under turnOf leaves
+    obeyed-cells i e =
+        ap (λ (c : List ℕ). getD c i 0) back ∙ put-kept _ (confined .long ∙ track-whole g w L .long) i _ (confined .cells) e
 
-    obeyed-checks : (row : Row) → does g w d .done .ending ≡ Check row → obeyed g w d .cells ≡ w .cells
-    unfolding obeyed settled does selected withTrack trackAt
-    obeyed-checks row e = ap (withTrack (w .cells) start) (confined .checks row e) ∙ overlay-same (w .cells) start trackCells inside
+    obeyed-checks : (row : Row) → x .ending ≡ Check row → obeyed g w d .cells ≡ w .cells
+    unfolding selected tracksOf under turnOf leaves withTrack trackAt
+    obeyed-checks row e = back ∙ ap (withTrack (w .cells) start) (confined .checks row e) ∙ overlay-same (w .cells) start trackCells (inside g w L)
+
+    abbrev st′ : List ℕ
+    st′ = placed (w .storage) d (given (x .moves))
+
+    put-long : length st′ ≡ length (w .storage)
+    unfolding placed
+    put-long = length-overlay (w .storage) (d .address) _ (omega (arith, length-take (d .count) (given (x .moves)), r))
 
     obeyed-storage : (i : ℕ) → wordStores g w i (Obey d) ≡ false → getD (obeyed g w d .storage) i 0 ≡ getD (w .storage) i 0
-    unfolding wordStores obeyed settled storageAfter does selected
+    unfolding wordStores obeyed settled storageAfter withStatus turnOf
     obeyed-storage i e =
-        let n = neither (mayStore d (does g w d .done) i) (both (not (goesOn d (does g w d .done))) (inStatus i)) e in
-        go (goesOn d (does g w d .done)) (n .1) ∙ confined .storage i (n .0)
+        let n = neither (mayStore (ruleOf (d .code) .act) d (moved d (toldOf x)) i) (both (not (goesOn d (toldOf x))) (inStatus i)) e in
+        go (goesOn d (toldOf x)) (n .1) ∙ confined .storage d (w .storage) r i (n .0)
       where
         go : (b : Bool) → both (not b) (inStatus i) ≡ false
-            → getD (pick b (does g w d .storage) (stored (does g w d .storage) (statusAfter (w .held .channel) d (does g w d .done)))) i 0
-            ≡ getD (does g w d .storage) i 0
+            → getD (pick b st′ (stored st′ (statusAfter (w .held .channel) d (toldOf x)))) i 0 ≡ getD st′ i 0
         go true f = refl
-        go false f = stored-kept (does g w d .storage) _ i (omega (arith, fine .storage, L .room)) f
+        go false f = stored-kept st′ _ i (omega (arith, put-long, L .room)) f
 
   -- ---- any word
 
@@ -128,7 +128,7 @@ module _ (g : Shape) (w : World) (L : Legal g w) where
   unfolding next
   in-storage = tested-in (w .storage) (w .held .channel .next) (w .held .channel .«after_tic»)
 
-  checks-by : (d : Word) (x : Tested) → TestedIn (w .storage) x → x ≡ Obey d → (row : Row) → does g w d .done .ending ≡ Check row
+  checks-by : (d : Word) (x : Tested) → TestedIn (w .storage) x → x ≡ Obey d → (row : Row) → turnOf g w d .ending ≡ Check row
       → takes g w x .cells ≡ w .cells
   unfolding takes
   checks-by d x r e row f = ap (λ (y : Tested). takes g w y .cells) e ∙ obeyed-checks d (subst (TestedIn (w .storage)) e r) row f

@@ -5,18 +5,17 @@ use Prim.Native.Nat.{ℕ, zero, suc, _+_, _<_, _≤_}
 use native.Mathlib.Omega.{arith}
 use native.Mathlib.Decide.{decLt, decLe}
 use mathlib.Core.Path.{_≡_, refl, sym, ap, _∙_, subst}
-use mathlib.Core.Bool.{Bool, true, false, true≢false}
-use mathlib.Core.List.{List, [], _∷_}
+use mathlib.Core.Bool.{Bool, true, false, true≢false, false≢true}
+use mathlib.Core.List.{List}
 use mathlib.Core.Logic.{⊎-elim}
-use lib.ListN.{length, getD}
+use lib.ListN.{length}
 use lib.Seq.{ext-getD}
 use lib.Dec.{eqb, leb}
 use borrow.Author.Tests.{eqb-true, eq-eqb}
 use Rattle.cells.specs.Choice.{both}
-use Rattle.cells.specs.Cells.{isByte, allBytes, markAt, marks}
+use Rattle.cells.specs.Cells.{markAt, marks}
 use Rattle.cells.proofs.Marks.{length-marks, getD-marks, mark-none}
 use Rattle.cells.proofs.Tests.{first-of, second-of, both-of}
-use Rattle.house_check.specs.Area.{checkBytes}
 use Rattle.house_check.proofs.Cells.{burst-cells}
 use Rattle.areas.specs.declared.Part.{Part}
 use Rattle.areas.specs.declared.Part.the-variants.{Home, Count, Key, Data}
@@ -27,13 +26,12 @@ use Rattle.sound.specs.Sound.{Sound}
 use Rattle.damage.specs.Damage.{Own, In, Damaged, partNo, sameArea}
 use Rattle.damage.proofs.Areas.{Good, good, area-cell, cell-recorded, no-marker, Apart, own-readable, own-apart}
 
--- t′ is t with every hit area of it made unreadable and all its other areas as they were; no area lost a recorded byte
+-- t′ is t with every hit area of it made unreadable and all its other areas as they were; a track that is hit had all its areas readable
 pub record Hurt (hit : Area → Bool) (t t′ : List ℕ) : Type 0 where
-  pub marked : marks t′ ≡ marks t
-  pub sound : (a : Area) → Own t a → readable t a ≡ true
-  pub kept : (a : Area) → Own t a → hit a ≡ false → areaCells t′ a ≡ areaCells t a
-  pub filled : (a : Area) → Own t a → (length (areaCells t′ a) ≡ a .bytes + checkBytes) × (allBytes (areaCells t′ a) ≡ true)
+  pub marked : marks t ≡ marks t′
+  pub kept : (a : Area) → Own t a → hit a ≡ false → areaCells t a ≡ areaCells t′ a
   pub broken : (a : Area) → Own t a → hit a ≡ true → readable t′ a ≡ false
+  pub sound : (x : Area) → hit x ≡ true → (a : Area) → Own t a → readable t a ≡ true
 
 -- ---- the test of two areas being one
 
@@ -74,11 +72,6 @@ in? x i = go (decLe (x .first) i) (decLt i (x .first + x .bytes + 2))
     go (yes p) (no q) = no (λ z. q (z .1))
     go (no p) q = no (λ z. p (z .0))
 
-all-bytes : (l : List ℕ) → ((i : ℕ) → i < length l → isByte (getD l i 0) ≡ true) → allBytes l ≡ true
-unfolding allBytes
-all-bytes [] f = refl
-all-bytes (x ∷ l) f = both-of (f 0 (omega arith)) (all-bytes l (λ i h. f (suc i) (omega arith)))
-
 -- ---- damage to one area
 
 module _ (s : ℕ) (x : Area) (t t′ : List ℕ) (S : Sound t) (o : Own t x) (D : Damaged s x t t′) where
@@ -118,22 +111,19 @@ module _ (s : ℕ) (x : Area) (t t′ : List ℕ) (S : Sound t) (o : Own t x) (D
       let G = own-good x o in
       burst-cells (x .bytes) s (areaCells t x) (areaCells t′ x) (G .long) (length-full x o) (D .bits) (G .agree)
 
-  hit-filled : allBytes (areaCells t′ x) ≡ true
-  hit-filled =
-      all-bytes (areaCells t′ x)
-      (λ i h.
-      let n : i < x .bytes + 2 = omega (arith, length-full x o) in
-      ap isByte (area-cell t′ x i n) ∙ D .recorded (x .first + i) (omega arith, omega arith))
-
-  all-filled : (a : Area) → Own t a → (b : Bool) → sameArea x a ≡ b → allBytes (areaCells t′ a) ≡ true
-  all-filled a o′ true e = subst (λ (y : Area). allBytes (areaCells t′ y) ≡ true) (same-area x a e) hit-filled
-  all-filled a o′ false e = ap allBytes (cells-kept a o′ e) ∙ own-good a o′ .bytes
-
 pub damaged-hurt : (s : ℕ) (x : Area) (t t′ : List ℕ) → Sound t → Own t x → Damaged s x t t′ → Hurt (sameArea x) t t′
 damaged-hurt s x t t′ S o D = record {
-  marked = marks-same s x t t′ S o D;
-  sound = own-readable t S;
-  kept = cells-kept s x t t′ S o D;
-  filled = λ a o′. (length-full s x t t′ S o D a o′, all-filled s x t t′ S o D a o′ (sameArea x a) refl);
+  marked = sym (marks-same s x t t′ S o D);
+  kept = λ a o′ e. sym (cells-kept s x t t′ S o D a o′ e);
   broken = λ a o′ e. subst (λ (y : Area). readable t′ y ≡ false) (same-area x a e) (hit-broken s x t t′ S o D);
+  sound = λ y e a o′. own-readable t S a o′;
+}
+
+-- no damage
+pub same-hurt : (hit : Area → Bool) (t t′ : List ℕ) → ((a : Area) → hit a ≡ false) → t ≡ t′ → Hurt hit t t′
+same-hurt hit t t′ none e = record {
+  marked = ap marks e;
+  kept = λ a o f. ap (λ (u : List ℕ). areaCells u a) e;
+  broken = λ a o f. absurd (false≢true (sym (none a) ∙ f));
+  sound = λ x f a o. absurd (false≢true (sym (none x) ∙ f));
 }

@@ -1,4 +1,5 @@
 -- Laws of damage.
 pub mod Areas
 pub mod Hurts
-pub mod Works
+pub mod Planned
+pub mod Struck

@@ -44,8 +44,8 @@ pub record Damaged (s : ℕ) (x : Area) (t t′ : List ℕ) : Type 0 where
 
 -- ---- which areas are hit
 
--- whether one of the areas is hit
-unfoldable pub any : (Area → Bool) → List Area → Bool
+-- whether one of a list is hit
+unfoldable pub any : {A : Type 0} → (A → Bool) → List A → Bool
 any hit [] = false
 any hit (a ∷ l) = either (hit a) (any hit l)
 

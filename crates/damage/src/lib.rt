@@ -1,1 +1,1 @@
-// No code: damage to a soundly written track, and what work on it then gets.
+// No code: damage to a soundly written track, and what a command on it then comes to.

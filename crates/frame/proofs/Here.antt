@@ -157,6 +157,6 @@ module _ (g : Shape) (t : Tracks) (s : Stands) (o : Orders) (code : ℕ) (v : Li
       let t′ : Tracks = alone (t (s .head)) in
       let p : Plan = plans (ruleOf code) (marksOf t) s o in
       plan-kept g t t′ s o code v (ruleOf code) p
-      (subst (Agrees t t′) (sym (plans-here (ruleOf code) (marksOf t) s o)) (record { marked = refl; over = λ a. refl }))
+      (subst (Agrees t t′ (ruleOf code .act)) (sym (plans-here (ruleOf code) (marksOf t) s o)) (record { marked = refl; over = λ c n. refl }))
       (subst (AllSame t t′) (command-reads g t s o code v) (under-same t (s .head) (command g t s o code v .reads) reads-here))
       ∙ ap (planTurn g t′ s o code v (ruleOf code)) (plans-alone (ruleOf code) t s o)

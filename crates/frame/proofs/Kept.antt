@@ -2,7 +2,7 @@
 -- Cylinders that agree in these give the same turn. Why: the areas are read in order, and which they are only the count says, which is one of them.
 use Prim.Native.Nat.{ℕ}
 use mathlib.Core.Path.{_≡_, refl, ap, ap₂, _∙_, subst}
-use mathlib.Core.Bool.{Bool}
+use mathlib.Core.Bool.{Bool, true≢false, false}
 use mathlib.Core.List.{List, [], _∷_}
 use lib.ListN.{take}
 use Rattle.cells.specs.Choice.{pick, both}
@@ -23,6 +23,8 @@ use Rattle.work.specs.Work.{namedBy, seeing}
 use Rattle.laying.specs.Laying.{recorded}
 use Rattle.table.specs.declared.Names.{Names}
 use Rattle.table.specs.declared.Names.the-variants as Names
+use Rattle.table.specs.declared.Act.{Act}
+use Rattle.table.specs.declared.Act.the-variants as Act
 use Rattle.table.specs.declared.Rule.{Rule}
 use Rattle.table.specs.Table.{ruleOf}
 use Rattle.turn.specs.Turn.{Tracks, Lies, checks}
@@ -31,14 +33,14 @@ use Rattle.command.specs.declared.Plan.{Plan}
 use Rattle.command.specs.declared.Plan.the-variants.{Refuses, Works}
 use Rattle.command.specs.declared.Job.{Job}
 use Rattle.command.specs.Command.{marksOf, plans, liesOn, areasOf, allRead, countsIn, gets, saw, goesOver, allRecorded, areasRead, sight, acts, jobOf, hasRead, readyBy, planReads, turnBy, obeys, command}
-use Rattle.frame.specs.Frame.{Same, AllSame, planHead}
+use Rattle.frame.specs.Frame.{Same, AllSame, planHead, laysCells}
 use Rattle.frame.proofs.Turns.{planTurn, command-reads}
 
 module _ (t t′ : Tracks) where
-  -- what else is seen of the track under a head
-  pub record Agrees (h : Head) : Type 0 where
+  -- what else an act sees of the track under a head: the markers, and whether the areas that it goes over are byte cells
+  pub record Agrees (a : Act) (h : Head) : Type 0 where
     pub marked : marks (t h) ≡ marks (t′ h)
-    pub over : (a : Area) → recorded (t h) a ≡ recorded (t′ h) a
+    pub over : (c : ℕ) (n : Counts) → allRecorded (t h) (goesOver a c n) ≡ allRecorded (t′ h) (goesOver a c n)
 
   -- ---- an area with the same cells
 
@@ -67,6 +69,14 @@ module _ (t t′ : Tracks) where
   unfolding allRecorded
   over-kept h e [] = refl
   over-kept h e (a ∷ l) = ap₂ both (e a) (over-kept h e l)
+
+  -- only a write goes over any
+  over-none : (h : Head) (a : Act) → laysCells a ≡ false → (c : ℕ) (n : Counts) → allRecorded (t h) (goesOver a c n) ≡ allRecorded (t′ h) (goesOver a c n)
+  unfolding laysCells goesOver allRecorded
+  over-none h (Act.Control k) e c n = refl
+  over-none h (Act.Search k) e c n = refl
+  over-none h (Act.Read counted) e c n = refl
+  over-none h (Act.Write w) e c n = absurd (true≢false e)
 
   -- ---- the areas of a record whose count area is so
 
@@ -104,22 +114,21 @@ module _ (t t′ : Tracks) where
 -- ---- a plan: all that it sees is under its head
 
 module _ (g : Shape) (t t′ : Tracks) (s : Stands) (o : Orders) (code : ℕ) (v : List ℕ) where
-  sight-kept : (j : Job) → Agrees t t′ (j .task .head) → AllSame t t′ (areasRead t j) → sight t j v ≡ sight t′ j v
+  sight-kept : (j : Job) → Agrees t t′ (j .rule .act) (j .task .head) → AllSame t t′ (areasRead t j) → sight t j v ≡ sight t′ j v
   unfolding sight areasRead
   sight-kept j k e =
       let A = areas-kept t t′ (j .task .head) (j .task .place) (j .rule .names) e in
       let S = saw-kept t t′ _ e ∙ ap (saw t′) A in
-      let O = over-kept t t′ (j .task .head) (k .over) (goesOver (j .rule .act) (j .task .place) (j .counts)) in
-      λ i. record { job = j; sent = v; reads = A i; seen = S i; marks = k .marked i; recorded = O i }
+      λ i. record { job = j; sent = v; reads = A i; seen = S i; marks = k .marked i; recorded = k .over (j .task .place) (j .counts) i }
 
-  got-kept : (r : Rule) (k : Task) (x : Got) → Agrees t t′ (k .head) → AllSame t t′ (areasOf (r .names) t (k .head) (k .place))
+  got-kept : (r : Rule) (k : Task) (x : Got) → Agrees t t′ (r .act) (k .head) → AllSame t t′ (areasOf (r .names) t (k .head) (k .place))
       → turnBy g t s o v (areasOf (r .names) t (k .head) (k .place)) (hasRead code r s o k x)
       ≡ turnBy g t′ s o v (areasOf (r .names) t′ (k .head) (k .place)) (hasRead code r s o k x)
   unfolding hasRead turnBy areasRead
   got-kept r k (Sees n) a e = ap (acts g (r .act)) (sight-kept (jobOf code r s o k n) a e)
   got-kept r k (Fails row) a e = ap (λ (l : List Lies). checks s o l row) (areas-kept t t′ (k .head) (k .place) (r .names) e)
 
-  pub plan-kept : (r : Rule) (p : Plan) → Agrees t t′ (planHead s p) → AllSame t t′ (planReads t r p)
+  pub plan-kept : (r : Rule) (p : Plan) → Agrees t t′ (r .act) (planHead s p) → AllSame t t′ (planReads t r p)
       → planTurn g t s o code v r p ≡ planTurn g t′ s o code v r p
   unfolding planHead planReads readyBy turnBy
   plan-kept r (Refuses row) a e = refl
@@ -130,9 +139,17 @@ module _ (g : Shape) (t t′ : Tracks) (s : Stands) (o : Orders) (code : ℕ) (v
 
   -- ---- a command
 
+  by-kept : ((h : Head) → Agrees t t′ (ruleOf code .act) h) → AllSame t t′ (command g t s o code v .reads) → command g t s o code v ≡ command g t′ s o code v
+  unfolding command obeys marksOf
+  by-kept a e =
+      plan-kept (ruleOf code) _ (a _) (subst (AllSame t t′) (command-reads g t s o code v) e)
+      ∙ (λ i. planTurn g t′ s o code v (ruleOf code) (plans (ruleOf code) (λ h. a h .marked i) s o))
+
   pub command-kept : ((h : Head) → marks (t h) ≡ marks (t′ h)) → ((h : Head) (a : Area) → recorded (t h) a ≡ recorded (t′ h) a)
       → AllSame t t′ (command g t s o code v .reads) → command g t s o code v ≡ command g t′ s o code v
-  unfolding command obeys marksOf
-  command-kept same over e =
-      plan-kept (ruleOf code) _ (record { marked = same _; over = over _ }) (subst (AllSame t t′) (command-reads g t s o code v) e)
-      ∙ (λ i. planTurn g t′ s o code v (ruleOf code) (plans (ruleOf code) (λ h. same h i) s o))
+  command-kept same over e = by-kept (λ h. record { marked = same h; over = λ c n. over-kept t t′ h (over h) _ }) e
+
+  -- one that is no write sees the markers and what it reads, and nothing else
+  pub still-kept : laysCells (ruleOf code .act) ≡ false → ((h : Head) → marks (t h) ≡ marks (t′ h))
+      → AllSame t t′ (command g t s o code v .reads) → command g t s o code v ≡ command g t′ s o code v
+  still-kept q same e = by-kept (λ h. record { marked = same h; over = over-none t t′ h (ruleOf code .act) q }) e

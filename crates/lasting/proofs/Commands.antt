@@ -1,239 +1,268 @@
--- The writes as commands: one that ends in Unit Check leaves the track as it was; what any other leaves lasts and can be read back. Why:
--- a command is refused, or fails in what it reads first, or finds no room or no recorded bytes, and then the track is not touched; else
--- it lays what the laws of the format writes and of the updates are about. Assumes nothing.
+-- The writes as commands: one that ends in Unit Check lays no cell; what any other leaves lasts and can be read back. Why: a command is refused, or fails
+-- in what it reads first, or finds no room or no recorded bytes, and then it lays nothing; else it lays what the laws of the format writes and of the
+-- updates are about.
 use Prim.Native.Nat.{ℕ, _+_, _≤_}
-use mathlib.Core.Path.{_≡_, refl, sym, _∙_, subst}
+use mathlib.Core.Path.{_≡_, refl, sym, ap, _∙_, subst}
 use mathlib.Core.Bool.{Bool, true, false}
-use mathlib.Core.List.{List, [], _∷_}
+use mathlib.Core.List.{List, [], _∷_, _++_}
 use native.Mathlib.Omega.{arith}
 use lib.ListN.{length}
-use borrow.Author.Tests.{leb-true}
-use Rattle.cells.specs.Choice.{pick}
-use Rattle.cells.specs.Bytes.{part}
-use Rattle.cells.specs.Cells.{marks}
-use Rattle.cells.proofs.Numbers.{Bytes, part-bytes}
-use Rattle.cells.proofs.Tests.{pick-all, first-picked}
+use lib.Dec.{eqb}
+use Rattle.cells.specs.Choice.{pick, both}
+use Rattle.cells.specs.Bytes.{padded}
+use Rattle.cells.specs.Cells.{trackCells, marker, marks}
+use Rattle.cells.proofs.Numbers.{Bytes}
+use Rattle.cells.proofs.Tests.{first-picked, second-picked}
 use Rattle.rows.specs.declared.Row.{Row}
-use Rattle.rows.specs.declared.Row.the-variants.{Unreadable, NoRoom, WrongBefore, WriteBarred}
-use Rattle.words.specs.declared.Word.{Word}
-use Rattle.areas.specs.declared.Area.{Area}
+use Rattle.rows.specs.declared.Row.the-variants as Row
+use Rattle.mask.specs.declared.Writing.the-variants.{HomeOrZero}
+use Rattle.mask.specs.Mask.{barsWrite}
+use Rattle.house_check.specs.Area as Area
 use Rattle.areas.specs.declared.Counts.{Counts}
-use Rattle.areas.specs.Areas.{homeArea, homeFlag, zeroFirst, countsAt, recordCells, endBy, needed, readable, rowOf}
+use Rattle.areas.specs.Areas.{homeBytes, homeArea, homeFlag, zeroFirst, countsAt, keyArea, dataArea, recordCells, endBy, needed, readable, rowOf}
 use Rattle.areas.specs.Flags.{flagOfZero, flagAfter}
 use Rattle.hunt.specs.declared.Spot.{Spot}
-use Rattle.hunt.specs.Hunt.{countFirst, spotFits}
+use Rattle.hunt.specs.declared.Spot.the-variants as Spot
+use Rattle.hunt.specs.Hunt.{countFirst}
 use Rattle.room.specs.Room.{fits}
-use Rattle.room.proofs.Laws.{fits-is}
-use Rattle.mask.specs.Mask.{barsWrite}
-use Rattle.commands.specs.declared.Write.{Write}
-use Rattle.commands.specs.declared.Write.the-variants.{WriteHome, WriteZero, WriteRecord, WriteData, WriteKeyData}
+use Rattle.room.proofs.Laws.{fits-ends}
+use Rattle.pack.specs.declared.Head.{Head}
+use Rattle.pack.specs.declared.Shape.{Shape}
 use Rattle.held.specs.declared.Selection.{Selection}
 use Rattle.held.specs.declared.Selection.the-variants.{Nothing, On}
 use Rattle.held.specs.declared.Stands.{Stands}
 use Rattle.held.specs.declared.Orders.{Orders}
 use Rattle.outcome.specs.declared.Ending.the-variants.{Normal, Exception, Check}
-use Rattle.outcome.specs.Outcome.{checked}
-use Rattle.work.specs.declared.Work.the-variants.{Record}
+use Rattle.outcome.specs.Outcome.{standing, after, ordered}
 use Rattle.work.specs.declared.Got.{Got}
 use Rattle.work.specs.declared.Got.the-variants.{Sees, Fails}
-use Rattle.work.specs.Work.{workReads, allRead, noCounts, named}
-use Rattle.plan.specs.declared.Job.{Job}
-use Rattle.plan.specs.Plan.{SelectedOn}
-use Rattle.read.specs.Read.{moved}
-use Rattle.licence.specs.declared.Aim.{Aim}
-use Rattle.licence.specs.declared.Aim.the-variants.{Refuses, Takes}
-use Rattle.licence.specs.Licence.{licensed, writing, selected, taken, aim}
-use Rattle.laying.specs.Laying.{newCounts}
-use Rattle.write.specs.declared.Laying.the-variants.{Lays}
-use Rattle.write.specs.Write.{writeReads, countsFirst, readFirst, Laid, laidOut, stops, laysHome, laysZero, laysRecord, allRecorded, keyUpdated, dataUpdated, laysUpdate, lays, WriteDone, writeDone, wrote, writeGot, writeBy, writes}
+use Rattle.work.specs.Work.{seeing, noCounts, named}
+use Rattle.plan.specs.Plan.{homePlace, SelectedOn}
+use Rattle.licence.specs.Licence.{homeDone}
+use Rattle.laying.specs.Laying.{newCounts, newRecord, formatted}
+use Rattle.laying.proofs.Laws.{length-area, length-new}
+use Rattle.table.specs.declared.Licence.the-variants as Licence
+use Rattle.table.specs.declared.Write.{Write}
+use Rattle.table.specs.declared.Write.the-variants as Write
+use Rattle.table.specs.declared.Act.the-variants as Act
+use Rattle.table.specs.declared.Rule.{Rule}
+use Rattle.table.specs.Table.{ruleOf, find, controls, searches, reads, writes}
+use Rattle.turn.specs.Turn.{Tracks, Lies, Piece, Moves, Takes, Turn, laid, checks}
+use Rattle.command.specs.declared.Task.{Task}
+use Rattle.command.specs.declared.Plan.{Plan}
+use Rattle.command.specs.declared.Plan.the-variants.{Refuses, Works}
+use Rattle.command.specs.Command.{licensed, task, tallies, onRecord, aimed, unlessBarred, plans, liesOn, areasOf, allRead, countsIn, gets, saw, goesOver, writesOver, allRecorded, Sight, areasRead, sight, fails, endsAt, ends, endingOf, piece, toEnd, laysHome, recordTakes, laysNew, laysR0, laysRecord, over, keySent, updates, lays, acts, jobOf, hasRead, readyBy, planReads, turnBy, obeys, command, standsAfter, ordersAfter}
+use Rattle.command.proofs.Pieces.{format-is}
 use Rattle.sound.specs.Sound.{Sound}
 use Rattle.damage.specs.Damage.{Begun}
-use Rattle.lasting.specs.Lasting.{HomeOnly, Lasts, UpdateBack, ReadsBack, Leaves, unchanged, written}
+use Rattle.lasting.specs.Lasting.{HomeOnly, Lasts, NewBack, ReadsBack, Took, Leaves, unchanged, written}
 use Rattle.lasting.proofs.Format.{flag-of-zero, home-back, home-lasts, zero-back, zero-lasts, record-back, record-lasts}
-use Rattle.lasting.proofs.Update.{update-lasts, update-back}
-
--- ---- the record that a write takes is one of the track
-
-abbrev Aimed : List ℕ → Aim → Type 0
-Aimed t (Refuses row) = Unit {0}
-Aimed t (Takes spot) = Begun t spot
-
-module _ (t : List ℕ) where
-  selected-on : (x : Selection) → SelectedOn (marks t) x → Aimed t (selected x)
-  unfolding SelectedOn selected
-  selected-on Nothing k = tt
-  selected-on (On spot) k = k
-
-  taken-on : (c : Write) (x : Selection) → SelectedOn (marks t) x → Aimed t (taken c x)
-  unfolding taken spotFits
-  taken-on WriteHome x k = refl
-  taken-on WriteZero x k = refl
-  taken-on WriteRecord x k = selected-on x k
-  taken-on WriteData x k = selected-on x k
-  taken-on WriteKeyData x k = selected-on x k
-
-  aimed : (c : Write) (o : Orders) → SelectedOn (marks t) (o .selection) → Aimed t (aim c o)
-  unfolding aim
-  aimed c o k =
-      let x : Aim = pick (barsWrite (o .mask) (writing c)) (Refuses WriteBarred) (taken c (o .selection)) in
-      let p : Aimed t x =
-      pick-all (Aimed t) (barsWrite (o .mask) (writing c)) {x = Refuses WriteBarred} {y = taken c (o .selection)} tt (taken-on c (o .selection) k) in
-      pick-all (Aimed t) (licensed c (o .before) (o .whole)) {x = x} {y = Refuses WrongBefore} p tt
+use Rattle.lasting.proofs.Update.{updated, update-is, update-lasts, update-back}
+use Rattle.lasting.proofs.Works.{OnSelected, Needs, write-turn}
 
 -- ---- what is laid
-
--- it has room where it ends on the track
-ends-on : (first needs : ℕ) → fits first needs ≡ true → first + needs ≤ 4096
-ends-on first needs e = leb-true (first + needs) 4096 (sym (fits-is first needs) ∙ e)
 
 not-check : (b : Bool) (row : Row) → pick b Exception Normal ≡ Check row → ⊥
 not-check true row e = let z : _≡_ {A = ℕ} 0 1 = cc in omega arith
 not-check false row e = let z : _≡_ {A = ℕ} 0 1 = cc in omega arith
 
-module _ (k : Write) (s : Stands) (o : Orders) (w : Word) (v t : List ℕ) (spot : Spot) (took : aim k o ≡ Takes spot) where
-  abbrev Good : Laid → Type 0
-  Good x = Leaves k o v t (writeDone (wrote s o w (x .laying)) (x .track))
+module _ (tr : Tracks) (s : Stands) (o : Orders) (v : List ℕ) (long : length (tr (s .head)) ≡ trackCells) (b : Bytes v) where
+  abbrev t : List ℕ
+  t = tr (s .head)
+
+  abbrev Good : Write → Turn → Type 0
+  Good w x = Leaves w o v t x
 
   -- a row ended it
-  ended : (row : Row) → Good (stops row t)
-  unfolding stops wrote checked
-  ended row = unchanged row refl refl
+  ended : (w : Write) (l : List Lies) (row : Row) → Good w (checks s o l row)
+  unfolding checks
+  ended w l row = unchanged row refl refl
 
-  did : (j : Job) (n : ℕ) (empty : Bool) (t′ : List ℕ) → Lasts k t t′ → ReadsBack k (countFirst spot) v t t′ → Good (laidOut (Lays j n empty) t′)
-  unfolding wrote moved
-  did j n empty t′ p q = written spot took (not-check empty) p q
+  module _ (code : ℕ) (r : Rule) (k : Task) (n : Counts) (here : k .head ≡ s .head) where
+    abbrev x : Sight
+    x = sight tr (jobOf code r s o k n) v
 
-  -- of a choice, with its test known
-  chosen : (b : Bool) (x y : Laid) → (b ≡ true → Good x) → Good y → Good (pick b x y)
-  chosen true x y f g = f refl
-  chosen false x y f g = g
+    failed : (w : Write) (row : Row) → Good w (fails x row)
+    unfolding fails sight
+    failed w row = ended w _ row
 
-module _ (s : Stands) (o : Orders) (w : Word) (v t : List ℕ) (spot : Spot) (l : length t ≡ 4096) (b : Bytes v) where
-  abbrev c : ℕ
-  c = countFirst spot
+    -- it laid cells that leave t′
+    did : (w : Write) (spot : Spot) → Took w (o .selection) spot → (k′ : Task) (empty : Bool) (m : Moves) (l : List Piece) (t′ : List ℕ) → laid l t ≡ t′
+        → Lasts w t t′ → ReadsBack w (countFirst spot) v t t′ → Good w (endsAt x k′ (pick empty Exception Normal) m l false)
+    unfolding endsAt
+    did w spot took k′ empty m l t′ e p q =
+        written spot took (not-check empty) (subst (Lasts w t) (sym e) p) (subst (ReadsBack w (countFirst spot) v t) (sym e) q)
 
-  home-good : (e : aim WriteHome o ≡ Takes spot) → Good WriteHome s o w v t spot e (laysHome v t)
-  unfolding laysHome Lasts ReadsBack
-  home-good e = did WriteHome s o w v t spot e _ _ _ _ (home-lasts t v l b) (home-back t v l b)
+    home-good : Good Write.HomeAddress (laysHome x)
+    unfolding laysHome ends piece sight laid Took Lasts ReadsBack
+    home-good =
+        let w : List ℕ = Area.laid (padded homeBytes v) in
+        did Write.HomeAddress Spot.Zero tt k false _ _ (formatted t 0 w) (format-is t 0 w long (omega (arith, length-area homeBytes v)))
+        (home-lasts t v long b) (home-back t v long b)
 
-  zero-good : (e : aim WriteZero o ≡ Takes spot) → readable t homeArea ≡ true
-      → Good WriteZero s o w v t spot e (laysZero (flagOfZero (homeFlag t)) v t)
-  unfolding laysZero Lasts ReadsBack
-  zero-good e r =
-      let f : ℕ = flagOfZero (homeFlag t) in
-      chosen WriteZero s o w v t spot e (fits zeroFirst (recordCells (newCounts f v))) _ _
-      (λ q.
-      let h : 7 + recordCells (newCounts f v) ≤ 4096 = ends-on 7 (recordCells (newCounts f v)) q in
-      did WriteZero s o w v t spot e _ _ _ _ (zero-lasts t v l b f h refl r) (zero-back t v l b f h (flag-of-zero (homeFlag t))))
-      (ended WriteZero s o w v t spot e NoRoom)
+    -- a new record of so many cells, if it has room
+    new-good : (w : Write) (spot : Spot) → Took w (o .selection) spot → (k′ : Task) (first : ℕ) (c : Counts) (need : ℕ) (cells : List ℕ) → length cells ≡ need
+        → (first + need ≤ 4096 → Lasts w t (formatted t first cells))
+        → (first + need ≤ 4096 → ReadsBack w (countFirst spot) v t (formatted t first cells)) → Good w (laysNew x k′ first c need cells)
+    unfolding laysNew piece sight laid
+    new-good w spot took k′ first c need cells e p q = go (fits first need) refl
+      where
+        go : (y : Bool) → fits first need ≡ y
+            → Good w (pick y (endsAt x k′ Normal (Takes (recordTakes (x .sent) c)) (piece x first (toEnd first cells) ∷ []) false) (fails x Row.NoRoom))
+        go true f =
+            let h : first + need ≤ 4096 = fits-ends first need f in
+            did w spot took k′ false _ _ (formatted t first cells) (format-is t first cells long (omega (arith, e, h))) (p h) (q h)
+        go false f = failed w Row.NoRoom
 
-  record-good : (e : aim WriteRecord o ≡ Takes spot) → Begun t spot
-      → Good WriteRecord s o w v t spot e (laysRecord (endBy c (countsAt t c)) (flagAfter (countsAt t c .flag)) v t)
-  unfolding laysRecord Lasts ReadsBack
-  record-good e B =
-      let at : ℕ = endBy c (countsAt t c) in
-      let f : ℕ = countsAt t c .flag in
-      chosen WriteRecord s o w v t spot e (fits at (needed (newCounts (flagAfter f) v))) _ _
-      (λ q.
-      let h : at + needed (newCounts (flagAfter f) v) ≤ 4096 = ends-on at (needed (newCounts (flagAfter f) v)) q in
-      did WriteRecord s o w v t spot e _ _ _ _ (λ S. record-lasts t v l b at f h S spot B refl refl) (record-back t v l b at f h))
-      (ended WriteRecord s o w v t spot e NoRoom)
+    r0-good : (flag : ℕ) → flag ≡ flagOfZero (homeFlag t) → readable t homeArea ≡ true → Good Write.R0 (laysR0 x flag)
+    unfolding laysR0 sight Took Lasts ReadsBack
+    r0-good flag e home =
+        new-good Write.R0 Spot.Zero tt k zeroFirst (newCounts flag v) (recordCells (newCounts flag v)) (newRecord flag v) (length-new flag v)
+        (λ h. zero-lasts t v long b flag h e home)
+        (λ h. subst (λ (f : ℕ). NewBack f v (formatted t zeroFirst (newRecord flag v)) zeroFirst) e
+        (zero-back t v long b flag h (omega (arith, e, flag-of-zero (homeFlag t)))))
 
-  update-good : (k : Write) (e : aim k o ≡ Takes spot) (key : Bool) → Begun t spot
-      → ((t′ : List ℕ) → (Sound t → Sound t′) → UpdateBack key v t t′ c → Lasts k t t′ × ReadsBack k c v t t′)
-      → Good k s o w v t spot e (laysUpdate key c (countsAt t c) v t)
-  unfolding laysUpdate
-  update-good k e key B f =
-      let n : Counts = countsAt t c in
-      chosen k s o w v t spot e (allRecorded t (named c key true n)) _ _
-      (λ q.
-      let t′ : List ℕ = dataUpdated key c n v (keyUpdated key c n v t) in
-      let r = f t′ (λ S. update-lasts key v t b S spot B) (update-back key v t c b q) in
-      did k s o w v t spot e _ _ _ _ (r .0) (r .1))
-      (ended k s o w v t spot e Unreadable)
+    record-good : (spot : Spot) → o .selection ≡ On spot → Begun t spot
+        → Good Write.CountKeyData (laysRecord x (endBy (countFirst spot) (countsAt t (countFirst spot))) (flagAfter (countsAt t (countFirst spot) .flag)))
+    unfolding laysRecord needed sight Took Lasts ReadsBack
+    record-good spot took B =
+        let m : Counts = countsAt t (countFirst spot) in
+        let at : ℕ = endBy (countFirst spot) m in
+        let c : Counts = newCounts (flagAfter (m .flag)) v in
+        new-good Write.CountKeyData spot took _ at c (1 + recordCells c) (marker ∷ newRecord (flagAfter (m .flag)) v)
+        (omega (arith, length-new (flagAfter (m .flag)) v))
+        (λ h. λ S. record-lasts t v long b at (m .flag) h S spot B refl refl) (λ h. record-back t v long b at (m .flag) h)
 
--- ---- what is read first
+    update-good : (key : Bool) (spot : Spot) → o .selection ≡ On spot → Begun t spot
+        → x .recorded ≡ allRecorded t (named (countFirst spot) key true (countsAt t (countFirst spot)))
+        → Good (Write.Update key) (updates key x (countFirst spot) (countsAt t (countFirst spot)))
+    unfolding updates ends endingOf sight Took Lasts ReadsBack
+    update-good key spot took B e = go (x .recorded) refl
+      where
+        c : ℕ
+        c = countFirst spot
 
-all-got : (P : Got → Type 0) → ((row : Row) → P (Fails row)) → (t : List ℕ) (l : List Area) (x : Got) → P x → P (allRead t l x)
-unfolding allRead
-all-got P f t [] x p = p
-all-got P f t (a ∷ l) x p = pick-all P (readable t a) (all-got P f t l x p) (f (rowOf (a .part)))
+        m : Counts
+        m = countsAt t c
 
-module _ (s : Stands) (o : Orders) (w : Word) (v t : List ℕ) (l : length t ≡ 4096) (b : Bytes v) where
-  failed : (k : Write) (c : ℕ) (row : Row) → Leaves k o v t (writeGot k s o w v t c (Fails row))
-  unfolding writeGot checked
-  failed k c row = unchanged row refl refl
+        go : (y : Bool) → x .recorded ≡ y → Good (Write.Update key) (pick y
+            (ends x (endingOf (x .job)) (Takes (keySent key m + m .dl))
+            (over x (keyArea c m) 0 (keySent key m) ++ over x (dataArea c m) (keySent key m) (m .dl)) false)
+            (fails x Row.Unreadable))
+        go true q =
+            did (Write.Update key) spot took k (both (r .excepts) (eqb (n .dl) 0)) _ _ (updated key v c m t) (update-is x key c m t)
+            (λ S. update-lasts key v t b S spot B) (update-back key v t c b (sym e ∙ q))
+        go false q = failed (Write.Update key) Row.Unreadable
 
-  got : (k : Write) (spot : Spot) → aim k o ≡ Takes spot → Begun t spot
-      → Leaves k o v t (writeGot k s o w v t (countFirst spot) (readFirst k (countFirst spot) t))
-  unfolding readFirst writeReads countsFirst workReads allRead rowOf writeGot lays Lasts ReadsBack
-  got WriteHome spot e B = home-good s o w v t spot l b e
-  got WriteZero spot e B = go (readable t homeArea) refl
-    where
-      go : (y : Bool) → readable t homeArea ≡ y
-          → Leaves WriteZero o v t (writeGot WriteZero s o w v t (countFirst spot) (pick y (Sees noCounts) (Fails Unreadable)))
-      go true r = zero-good s o w v t spot l b e r
-      go false r = failed WriteZero (countFirst spot) Unreadable
-  got WriteRecord spot e B =
-      all-got (λ (g : Got). Leaves WriteRecord o v t (writeGot WriteRecord s o w v t (countFirst spot) g)) (failed WriteRecord (countFirst spot)) t
-      (workReads t (Record (countFirst spot) false false)) (Sees (countsAt t (countFirst spot))) (record-good s o w v t spot l b e B)
-  got WriteData spot e B =
-      all-got (λ (g : Got). Leaves WriteData o v t (writeGot WriteData s o w v t (countFirst spot) g)) (failed WriteData (countFirst spot)) t
-      (workReads t (Record (countFirst spot) false false)) (Sees (countsAt t (countFirst spot)))
-      (update-good s o w v t spot l b WriteData e false B (λ t′ p q. (p, q)))
-  got WriteKeyData spot e B =
-      all-got (λ (g : Got). Leaves WriteKeyData o v t (writeGot WriteKeyData s o w v t (countFirst spot) g)) (failed WriteKeyData (countFirst spot)) t
-      (workReads t (Record (countFirst spot) false false)) (Sees (countsAt t (countFirst spot)))
-      (update-good s o w v t spot l b WriteKeyData e true B (λ t′ p q. (p, q)))
+    -- ---- a write that has what it needs
+
+    module _ (sel : SelectedOn (marks t) (o .selection)) where
+      begun : (spot : Spot) → o .selection ≡ On spot → Begun t spot
+      unfolding SelectedOn
+      begun spot e = subst (SelectedOn (marks t)) e sel
+
+      -- the count of the record selected
+      selected-counts : (spot : Spot) → k .place ≡ countFirst spot → n ≡ countsAt (tr (k .head)) (k .place) → countsAt t (countFirst spot) ≡ n
+      selected-counts spot p e = sym (e ∙ (λ i. countsAt (tr (here i)) (p i)))
+
+      lays-good : (w : Write) → r .act ≡ Act.Write w → Needs w r o tr k n → Good w (lays w x)
+      unfolding lays sight areasRead goesOver writesOver
+      lays-good Write.HomeAddress act has = home-good
+      lays-good Write.R0 act has =
+          r0-good _ (ap flagOfZero (has .1 ∙ ap (λ (h : Head). homeFlag (tr h)) here)) (ap (λ (h : Head). readable (tr h) homeArea) (sym here) ∙ has .0)
+      lays-good Write.CountKeyData act has =
+          let O : OnSelected o (k .place) = has .0 in
+          subst (λ (c : ℕ). Good Write.CountKeyData (laysRecord x (endBy c n) (flagAfter (n .flag)))) (sym (O .place))
+          (subst (λ (m : Counts). Good Write.CountKeyData (laysRecord x (endBy (countFirst (O .spot)) m) (flagAfter (m .flag))))
+          (selected-counts (O .spot) (O .place) (has .1)) (record-good (O .spot) (O .is) (begun (O .spot) (O .is))))
+      lays-good (Write.Update key) act has =
+          let O : OnSelected o (k .place) = has .0 in
+          let c : ℕ = countFirst (O .spot) in
+          let e : countsAt t c ≡ n = selected-counts (O .spot) (O .place) (has .1) in
+          let over : x .recorded ≡ allRecorded t (named c key true (countsAt t c)) =
+          (λ i. allRecorded (tr (here i)) (goesOver (act i) (O .place i) (sym e i))) in
+          subst (λ (d : ℕ). Good (Write.Update key) (updates key x d n)) (sym (O .place))
+          (subst (λ (m : Counts). Good (Write.Update key) (updates key x c m)) e (update-good key (O .spot) (O .is) (begun (O .spot) (O .is)) over))
 
 -- ---- the command
 
 -- the track left is soundly written if the track was
-left-sound : (k : Write) (o : Orders) (v t : List ℕ) (x : WriteDone) → (k ≡ WriteHome → ⊥) → Sound t → Leaves k o v t x → Sound (x .track)
-unfolding Lasts
-left-sound k o v t x n S (unchanged row e q) = subst Sound (sym q) S
-left-sound WriteHome o v t x n S (written spot e g p q) = absurd (n refl)
-left-sound WriteZero o v t x n S (written spot e g p q) = p
-left-sound WriteRecord o v t x n S (written spot e g p q) = p S
-left-sound WriteData o v t x n S (written spot e g p q) = p S
-left-sound WriteKeyData o v t x n S (written spot e g p q) = p S
+left-sound : (w : Write) (o : Orders) (v t : List ℕ) (x : Turn) → (w ≡ Write.HomeAddress → ⊥) → Sound t → Leaves w o v t x → Sound (laid (x .lays) t)
+unfolding Lasts laid
+left-sound w o v t x n S (unchanged row e q) = subst (λ (l : List Piece). Sound (laid l t)) (sym q) S
+left-sound Write.HomeAddress o v t x n S (written spot e g p q) = absurd (n refl)
+left-sound Write.R0 o v t x n S (written spot e g p q) = p
+left-sound Write.CountKeyData o v t x n S (written spot e g p q) = p S
+left-sound (Write.Update key) o v t x n S (written spot e g p q) = p S
 
-module _ (k : Write) (s : Stands) (o : Orders) (w : Word) (st t : List ℕ) (bytes : Bytes st) (sel : SelectedOn (marks t) (o .selection)) where
-  pub writes-leave : length t ≡ 4096 → Leaves k o (part st (w .address) (w .count)) t (writes k s o w st t)
-  unfolding writes writeBy checked
-  writes-leave long = go (aim k o) refl
-    where
-      v : List ℕ
-      v = part st (w .address) (w .count)
-
-      go : (a : Aim) → aim k o ≡ a → Leaves k o v t (writeBy k s o w v t a)
-      go (Refuses row) e = unchanged row refl refl
-      go (Takes spot) e =
-          got s o w v t long (part-bytes st (w .address) (w .count) bytes) k spot e (subst (Aimed t) e (aimed t k o sel))
+module _ (g : Shape) (t : Tracks) (s : Stands) (o : Orders) (code : ℕ) (v : List ℕ) (bytes : Bytes v) (w : Write) (act : ruleOf code .act ≡ Act.Write w)
+    (sel : SelectedOn (marks (t (s .head))) (o .selection)) where
+  pub writes-leave : length (t (s .head)) ≡ trackCells → Leaves w o v (t (s .head)) (command g t s o code v)
+  writes-leave long =
+      write-turn g t s o code v w act (Leaves w o v (t (s .head))) (ended t s o v long bytes w)
+      (λ k n here has. lays-good t s o v long bytes code (ruleOf code) k n here sel w act has)
 
   -- every write but Write HA leaves a soundly written track soundly written, however it ends
-  pub writes-sound : (k ≡ WriteHome → ⊥) → Sound t → Sound (writes k s o w st t .track)
-  writes-sound n S = left-sound k o (part st (w .address) (w .count)) t (writes k s o w st t) n S (writes-leave (S .long))
+  pub writes-sound : (w ≡ Write.HomeAddress → ⊥) → Sound (t (s .head)) → Sound (laid (command g t s o code v .lays) (t (s .head)))
+  writes-sound n S = left-sound w o v (t (s .head)) (command g t s o code v) n S (writes-leave (S .long))
 
--- ---- Write HA, then Write R0: the track is soundly written, whatever it was
+-- ---- Write HA, then Write R0: the track is soundly written, whatever it was, if the mask bars neither
 
-picked-sound : (b : Bool) (x y : Laid) → b ≡ true → Sound (x .track) → Sound (pick b x y .track)
-picked-sound b x y e S = subst (λ (z : Laid). Sound (z .track)) (sym (first-picked b x y e)) S
+-- what ended normally was written
+normal-lasts : (w : Write) (o : Orders) (v t : List ℕ) (x : Turn) → x .ending ≡ Normal → Leaves w o v t x → Lasts w t (laid (x .lays) t)
+normal-lasts w o v t x e (unchanged row c q) = absurd (not-check false row (sym e ∙ c))
+normal-lasts w o v t x e (written spot took g p q) = p
 
-pub zero-sound : (v t : List ℕ) → length t ≡ 4096 → Bytes v → readable t homeArea ≡ true
-    → fits zeroFirst (recordCells (newCounts (flagOfZero (homeFlag t)) v)) ≡ true → Sound (laysZero (flagOfZero (homeFlag t)) v t .track)
-unfolding laysZero
-zero-sound v t l b r q =
-    let f : ℕ = flagOfZero (homeFlag t) in
-    picked-sound (fits zeroFirst (recordCells (newCounts f v))) _ _ q (zero-lasts t v l b f (ends-on 7 (recordCells (newCounts f v)) q) refl r)
+-- what such a write sees when it lays
+abbrev writeSight : Tracks → Stands → Orders → ℕ → ℕ → Selection → List ℕ → Sight
+writeSight t s o code place x v = sight t (jobOf code (ruleOf code) s o (task (s .head) place x 0) noCounts) v
 
-home-only : (v t : List ℕ) → length t ≡ 4096 → Bytes v → HomeOnly (laysHome v t .track)
-unfolding laysHome
-home-only v t l b = home-lasts t v l b
+module _ (g : Shape) (t : Tracks) (s : Stands) (o : Orders) (v : List ℕ) (allowed : barsWrite (o .mask) HomeOrZero ≡ false) where
+  home-is : command g t s o 0x19 v ≡ laysHome (writeSight t s o 0x19 homePlace Nothing v)
+  unfolding command obeys plans licensed unlessBarred aimed turnBy readyBy hasRead gets areasOf countsIn allRead acts lays ruleOf find controls searches reads writes
+  home-is =
+      ap (λ (p : Plan). turnBy g t s o v (planReads t (ruleOf 0x19) p) (readyBy t 0x19 (ruleOf 0x19) s o p))
+      (second-picked (barsWrite (o .mask) HomeOrZero) (Refuses Row.WriteBarred) (Works (task (s .head) homePlace Nothing 0)) allowed)
 
-pub home-then-zero : (v u t : List ℕ) → length t ≡ 4096 → Bytes v → Bytes u
-    → fits zeroFirst (recordCells (newCounts (flagOfZero (homeFlag (laysHome v t .track))) u)) ≡ true
-    → Sound (laysZero (flagOfZero (homeFlag (laysHome v t .track))) u (laysHome v t .track) .track)
-home-then-zero v u t l b b′ q =
-    let H : HomeOnly (laysHome v t .track) = home-only v t l b in
-    zero-sound u (laysHome v t .track) (H .long) b′ (H .home) q
+  module _ (before : licensed Licence.HomeAddress o ≡ true) (home : readable (t (s .head)) homeArea ≡ true) where
+    zero-is : command g t s o 0x15 v ≡ laysR0 (writeSight t s o 0x15 zeroFirst (On Spot.Zero) v) (flagOfZero (homeFlag (t (s .head))))
+    unfolding command obeys plans licensed unlessBarred aimed onRecord tallies countFirst turnBy readyBy hasRead gets areasOf liesOn countsIn allRead saw seeing acts lays sight areasRead ruleOf find controls searches reads writes
+    zero-is =
+        let k : Task = task (s .head) zeroFirst (On Spot.Zero) 0 in
+        let r : Rule = ruleOf 0x15 in
+        ap (λ (p : Plan). turnBy g t s o v (planReads t r p) (readyBy t 0x15 r s o p))
+        (first-picked (licensed Licence.HomeAddress o) _ (Refuses Row.WrongBefore) before
+        ∙ second-picked (barsWrite (o .mask) HomeOrZero) (Refuses Row.WriteBarred) (Works k) allowed)
+        ∙ ap (λ (y : Got). turnBy g t s o v (planReads t r (Works k)) (hasRead 0x15 r s o k y))
+        (first-picked (readable (t (s .head)) homeArea) (Sees noCounts) (Fails (rowOf (homeArea .part))) home)
+
+    -- Write R0 after home address work, with room
+    pub zero-sound : length (t (s .head)) ≡ trackCells → Bytes v
+        → fits zeroFirst (recordCells (newCounts (flagOfZero (homeFlag (t (s .head)))) v)) ≡ true → Sound (laid (command g t s o 0x15 v .lays) (t (s .head)))
+    unfolding laysR0 laysNew endsAt sight Lasts
+    zero-sound long b room =
+        let flag : ℕ = flagOfZero (homeFlag (t (s .head))) in
+        let k : Task = task (s .head) zeroFirst (On Spot.Zero) 0 in
+        let x : Turn = laysR0 (writeSight t s o 0x15 zeroFirst (On Spot.Zero) v) flag in
+        let e : x .ending ≡ Normal = ap (λ (y : Turn). y .ending) (first-picked (fits zeroFirst (recordCells (newCounts flag v))) _ _ room) in
+        subst (λ (y : Turn). Sound (laid (y .lays) (t (s .head)))) (sym zero-is)
+        (normal-lasts Write.R0 o v (t (s .head)) x e (r0-good t s o v long b 0x15 (ruleOf 0x15) k noCounts refl flag refl home))
+
+module _ (g : Shape) (t : Tracks) (s : Stands) (o : Orders) (v : List ℕ) (allowed : barsWrite (o .mask) HomeOrZero ≡ false) where
+  -- after the turn x, on the tracks t′ that it left, Write R0 with the bytes u, which has room
+  abbrev pub ThenZero : Turn → Type 0
+  ThenZero x = (t′ : Tracks) → t′ (s .head) ≡ laid (x .lays) (t (s .head)) → (u : List ℕ) → Bytes u
+      → fits zeroFirst (recordCells (newCounts (flagOfZero (homeFlag (t′ (s .head)))) u)) ≡ true
+      → Sound (laid (command g t′ (x .stands) (x .orders) 0x15 u .lays) (t′ (s .head)))
+
+  then-zero : length (t (s .head)) ≡ trackCells → Bytes v → ThenZero (laysHome (writeSight t s o 0x19 homePlace Nothing v))
+  unfolding laysHome ends endsAt standsAfter standing ordersAfter after ordered sight Lasts licensed homeDone
+  then-zero long b t′ e u b′ room =
+      let x : Turn = laysHome (writeSight t s o 0x19 homePlace Nothing v) in
+      let H : HomeOnly (t′ (s .head)) =
+      subst HomeOnly (sym e) (normal-lasts Write.HomeAddress o v (t (s .head)) x refl
+      (home-good t s o v long b 0x19 (ruleOf 0x19) (task (s .head) homePlace Nothing 0) noCounts refl)) in
+      zero-sound g t′ (x .stands) (x .orders) u allowed refl (H .home) (H .long) b′ room
+
+  pub home-then-zero : length (t (s .head)) ≡ trackCells → Bytes v → ThenZero (command g t s o 0x19 v)
+  home-then-zero long b = subst ThenZero (sym (home-is g t s o v allowed)) (then-zero long b)

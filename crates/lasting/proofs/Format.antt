@@ -1,6 +1,6 @@
 -- What the format writes leave: Write R0 and 1D a soundly written track, Write HA one that is not. Why: the cells before what is laid are
 -- as they were, so the home address and every record before it stay; what is laid is a record; gaps follow it. Behind Write HA no cell is
--- a recorded byte, so there is no R0. Assumes nothing.
+-- a recorded byte, so there is no R0.
 use Prim.Native.Nat.{ℕ, _+_, _/_, _<_, _≤_}
 use mathlib.Core.Path.{_≡_, sym, ap, _∙_, subst}
 use mathlib.Core.Bool.{true}

@@ -4,4 +4,5 @@ pub mod New
 pub mod Format
 pub mod Over
 pub mod Update
+pub mod Works
 pub mod Commands

@@ -1,15 +1,14 @@
 -- A new record is a record, and can be read back. Why: its cells are three areas laid one after another, each with its check, and its
--- count says how long the key and the data are. Assumes nothing.
-use Prim.Native.Nat.{ℕ, zero, suc, _+_, _<_, _≤_, max}
-use mathlib.Core.Path.{_≡_, sym, ap, _∙_, subst}
+-- count says how long the key and the data are.
+use Prim.Native.Nat.{ℕ, zero, suc, _+_, _<_, max}
+use mathlib.Core.Path.{_≡_, ap, _∙_, subst}
 use mathlib.Core.List.{List, [], _∷_, _++_}
 use native.Mathlib.Omega.{arith}
-use native.Mathlib.Decide.{decLt}
-use lib.ListN.{length, getD, drop, length-take, List·getD-eq-default}
+use lib.ListN.{length}
 use lib.Dec.{eqb}
 use borrow.Author.Tests.{ne-eqb}
 use Rattle.cells.specs.Bytes.{part, padded}
-use Rattle.cells.proofs.Laws.{getD-part, length-padded}
+use Rattle.cells.proofs.Laws.{length-padded}
 use Rattle.cells.proofs.Numbers.{Bytes, part-bytes}
 use Rattle.cells.proofs.Tests.{second-picked}
 use Rattle.house_check.specs.Area.{laid}

@@ -1,5 +1,5 @@
 -- One key or data area of a soundly written track recorded anew: the track stays soundly written, with the same records. Why: no other
--- area has a cell in common with it, so every count and marker stays; the area itself is laid with its check. Assumes nothing.
+-- area has a cell in common with it, so every count and marker stays; the area itself is laid with its check.
 use Prim.Native.Nat.{ℕ, _+_, _/_, _<_, _≤_}
 use mathlib.Core.Path.{_≡_, refl, sym, ap, _∙_, subst}
 use mathlib.Core.Bool.{true}

@@ -1,5 +1,5 @@
 -- Areas of two tracks: where the cells are the same an area reads the same. The cells from one on are those of a list: where they are
--- what was laid, the area is readable and holds the bytes. Why: an area is read from its cells alone. Assumes nothing.
+-- what was laid, the area is readable and holds the bytes. Why: an area is read from its cells alone.
 use Prim.Native.Nat.{ℕ, _+_, _<_, _≤_}
 use mathlib.Core.Path.{_≡_, sym, ap, _∙_, subst}
 use mathlib.Core.Bool.{true}

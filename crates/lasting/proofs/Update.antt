@@ -1,31 +1,31 @@
 -- 05 and 0D leave a soundly written track if it was, and what they wrote can be read back. Why: each records one area or two anew, the
--- key and then the data of one record, and neither holds a cell of the other or of the count. Assumes nothing.
+-- key and then the data of one record, and neither holds a cell of the other or of the count.
 use Prim.Native.Nat.{ℕ, _+_, _<_, _≤_}
 use mathlib.Core.Path.{_≡_, refl, ap, _∙_, subst}
-use mathlib.Core.Bool.{Bool, true, false, false≢true}
-use mathlib.Core.List.{List, [], _++_, append-nil}
+use mathlib.Core.Bool.{Bool, true, false}
+use mathlib.Core.List.{List, [], _∷_, _++_}
 use native.Mathlib.Omega.{arith}
 use lib.ListN.{length, getD}
-use lib.Dec.{ltb, eqb}
-use borrow.Author.Tests.{eqb-true, ltb-true, ltb-false, lt-ltb}
-use Rattle.cells.specs.Choice.{pick, both}
-use Rattle.cells.specs.Bytes.{part, padded}
+use lib.Dec.{ltb}
+use borrow.Author.Tests.{ltb-true, ltb-false}
+use Rattle.cells.specs.Choice.{pick}
+use Rattle.cells.specs.Bytes.{part, padded, overlay}
 use Rattle.cells.proofs.Laws.{length-padded}
 use Rattle.cells.proofs.Numbers.{Bytes}
-use Rattle.cells.proofs.Tests.{first-of, second-of}
+use Rattle.house_check.specs.Area as Area
 use Rattle.areas.specs.declared.Area.{Area}
 use Rattle.areas.specs.declared.Counts.{Counts}
-use Rattle.areas.specs.Areas.{countsAt, keyArea, dataArea, dataBytes, areaCells}
-use Rattle.areas.proofs.Laws.{length-areaCells, some-key}
+use Rattle.areas.specs.Areas.{countsAt, keyArea, dataArea, areaCells}
+use Rattle.areas.proofs.Laws.{some-key}
 use Rattle.hunt.specs.declared.Spot.{Spot}
 use Rattle.hunt.specs.Hunt.{countFirst}
-use Rattle.recording.specs.Recording.{areaWritten}
-use Rattle.work.specs.Work.{areaIf, named}
+use Rattle.work.specs.Work.{named}
 use Rattle.work.proofs.Seen.{lies}
-use Rattle.laying.specs.Laying.{recorded}
-use Rattle.write.specs.Write.{allRecorded, keySent, keyUpdated, dataUpdated}
+use Rattle.turn.specs.Turn.{Piece, laid}
+use Rattle.command.specs.Command.{Sight, piece, over, keySent, allRecorded}
+use Rattle.command.proofs.Pieces.{Over, over-in}
 use Rattle.sound.specs.Sound.{Sound}
-use Rattle.damage.specs.Damage.{Begun, ownKey, ownData, partNo}
+use Rattle.damage.specs.Damage.{Begun, Own, ownKey, ownData, partNo}
 use Rattle.damage.proofs.Areas.{own-readable}
 use Rattle.lasting.specs.Lasting.{Holds, UpdateBack}
 use Rattle.lasting.proofs.Same.{same-readable, same-bytes}
@@ -33,167 +33,158 @@ use Rattle.lasting.proofs.New.{sent-bytes}
 use Rattle.lasting.proofs.Format.{area-kept, counts-kept}
 use Rattle.lasting.proofs.Over.{Still, over-long, over-holds, over-before, over-still, data-filled, key-filled}
 
--- a key is sent only if it is named and there is one
-key-named : (key : Bool) (n : Counts) → 0 < keySent key n → both key (ltb 0 (n .kl)) ≡ true
+-- a key is sent only if it is named, and then all of it
+key-there : (key : Bool) (n : Counts) → 0 < keySent key n → keySent key n ≡ n .kl
 unfolding keySent
-key-named true n h = lt-ltb 0 (n .kl) h
-key-named false n h = absurd (omega arith)
+key-there true n h = refl
+key-there false n h = absurd (omega arith)
 
-key-there : (key : Bool) (n : Counts) → 0 < keySent key n → 0 < n .kl
-key-there key n h = ltb-true 0 (n .kl) (second-of key (ltb 0 (n .kl)) (key-named key n h))
+-- ---- the pieces of an update: areas recorded anew, one after another
+
+-- an area, of n of the bytes sent from one on, if there are any
+abbrev pub anew : List ℕ → List ℕ → Area → ℕ → ℕ → List ℕ
+anew v t a from n = pick (ltb 0 n) (overlay t (a .first) (Area.laid (padded n (part v from n)))) t
+
+abbrev pub updated : Bool → List ℕ → ℕ → Counts → List ℕ → List ℕ
+updated key v c n t = anew v (anew v t (keyArea c n) 0 (keySent key n)) (dataArea c n) (keySent key n) (n .dl)
+
+laid-append : (l r : List Piece) (t : List ℕ) → laid (l ++ r) t ≡ laid r (laid l t)
+unfolding laid
+laid-append [] r t = refl
+laid-append (p ∷ l) r t = laid-append l r (overlay t (p .first) (p .cells))
+
+module _ (x : Sight) where
+  over-is : (a : Area) (from n : ℕ) (t : List ℕ) → laid (over x a from n) t ≡ anew (x .sent) t a from n
+  unfolding laid over piece
+  over-is a from n t = go (ltb 0 n)
+    where
+      w : List ℕ
+      w = Area.laid (padded n (part (x .sent) from n))
+
+      go : (b : Bool) → laid (pick b (record { head = x .job .task .head; first = a .first; cells = w } ∷ []) []) t
+          ≡ pick b (overlay t (a .first) w) t
+      go true = refl
+      go false = refl
+
+  pub update-is : (key : Bool) (c : ℕ) (n : Counts) (t : List ℕ)
+      → laid (over x (keyArea c n) 0 (keySent key n) ++ over x (dataArea c n) (keySent key n) (n .dl)) t ≡ updated key (x .sent) c n t
+  update-is key c n t =
+      laid-append (over x (keyArea c n) 0 (keySent key n)) (over x (dataArea c n) (keySent key n) (n .dl)) t
+      ∙ over-is (dataArea c n) (keySent key n) (n .dl) (laid (over x (keyArea c n) 0 (keySent key n)) t)
+      ∙ ap (λ (z : List ℕ). anew (x .sent) z (dataArea c n) (keySent key n) (n .dl)) (over-is (keyArea c n) 0 (keySent key n) t)
 
 -- ---- soundly written
 
-module _ (key : Bool) (v t : List ℕ) (b : Bytes v) (S : Sound t) (spot : Spot) (B : Begun t spot) where
+module _ (v t : List ℕ) (b : Bytes v) (S : Sound t) (spot : Spot) (B : Begun t spot) where
+  -- an area of the track that is no data area of DL 0
+  record Whose (a : Area) (n : ℕ) : Type 0 where
+    bytes : n ≡ a .bytes
+    own : Own t a
+    kind : 1 < partNo (a .part)
+    filled : (r : Spot) → Begun t r → countsAt t (countFirst r) .dl ≡ 0 → dataArea (countFirst r) (countsAt t (countFirst r)) ≡ a → ⊥
+
+  anew-still : (a : Area) (from n : ℕ) → (0 < n → Whose a n) → Still t (anew v t a from n) spot
+  anew-still a from n f = go (ltb 0 n) refl
+    where
+      w : List ℕ
+      w = padded n (part v from n)
+
+      go : (y : Bool) → ltb 0 n ≡ y → Still t (pick y (overlay t (a .first) (Area.laid w)) t) spot
+      go true e =
+          let W : Whose a n = f (ltb-true 0 n e) in
+          over-still t a w (sent-bytes v n from n b) (length-padded n (part v from n) ∙ W .bytes) (lies t a (own-readable t S a (W .own)))
+          S (W .own) (W .kind) (W .filled) spot B
+      go false e = record { sound = S; begun = B; counts = refl }
+
   abbrev c : ℕ
   c = countFirst spot
 
   abbrev n : Counts
   n = countsAt t c
 
-  same : Still t t spot
-  same = record { sound = S; begun = B; counts = refl }
+  key-still : (key : Bool) → Still t (anew v t (keyArea c n) 0 (keySent key n)) spot
+  unfolding keyArea partNo
+  key-still key =
+      anew-still (keyArea c n) 0 (keySent key n)
+      (λ h. record {
+        bytes = key-there key n h;
+        own = ownKey spot B (λ z. omega (arith, h, key-there key n h));
+        kind = omega arith;
+        filled = λ r B′ z q. key-filled (countFirst r) c (countsAt t (countFirst r)) n q;
+      })
 
-  key-still : Still t (keyUpdated key c n v t) spot
-  unfolding keyUpdated areaWritten keyArea partNo
-  key-still = go (ltb 0 (keySent key n)) refl
-    where
-      go : (y : Bool) → ltb 0 (keySent key n) ≡ y → Still t (pick y (areaWritten t (keyArea c n .first) (part v 0 (n .kl)) (n .kl)) t) spot
-      go true e =
-          let h : 0 < n .kl = key-there key n (ltb-true 0 (keySent key n) e) in
-          let o = ownKey spot B (λ z. omega arith) in
-          over-still t (keyArea c n) (padded (n .kl) (part v 0 (n .kl))) (sent-bytes v (n .kl) 0 (n .kl) b) (length-padded (n .kl) (part v 0 (n .kl)))
-          (lies t (keyArea c n) (own-readable t S (keyArea c n) o)) S o (omega arith) (λ r B′ z q. key-filled (countFirst r) c (countsAt t (countFirst r)) n q) spot B
-      go false e = same
-
-  data-sound : Sound (dataUpdated key c n v t)
-  unfolding dataUpdated areaWritten dataArea partNo
-  data-sound = go (ltb 0 (n .dl)) refl
-    where
-      go : (y : Bool) → ltb 0 (n .dl) ≡ y → Sound (pick y (areaWritten t (dataArea c n .first) (part v (keySent key n) (n .dl)) (n .dl)) t)
-      go true e =
-          let h : 0 < n .dl = ltb-true 0 (n .dl) e in
-          let w : List ℕ = part v (keySent key n) (n .dl) in
-          let l : length (padded (n .dl) w) ≡ dataBytes n = omega (arith, length-padded (n .dl) w) in
-          over-still t (dataArea c n) (padded (n .dl) w) (sent-bytes v (n .dl) (keySent key n) (n .dl) b) l
-          (lies t (dataArea c n) (own-readable t S (dataArea c n) (ownData spot B))) S (ownData spot B) (omega arith)
-          (λ r B′ z q. data-filled t S spot r B B′ h z q) spot B .sound
-      go false e = S
+  data-still : (from : ℕ) → Still t (anew v t (dataArea c n) from (n .dl)) spot
+  unfolding dataArea partNo
+  data-still from =
+      anew-still (dataArea c n) from (n .dl)
+      (λ h. record {
+        bytes = omega arith;
+        own = ownData spot B;
+        kind = omega arith;
+        filled = λ r B′ z q. data-filled t S spot r B B′ h z q;
+      })
 
 -- the data go over what the key left
 pub update-lasts : (key : Bool) (v t : List ℕ) → Bytes v → Sound t → (spot : Spot) → Begun t spot
-    → Sound (dataUpdated key (countFirst spot) (countsAt t (countFirst spot)) v (keyUpdated key (countFirst spot) (countsAt t (countFirst spot)) v t))
+    → Sound (updated key v (countFirst spot) (countsAt t (countFirst spot)) t)
 update-lasts key v t b S spot B =
-    let K = key-still key v t b S spot B in
-    let t₁ : List ℕ = keyUpdated key (countFirst spot) (countsAt t (countFirst spot)) v t in
-    subst (λ (m : Counts). Sound (dataUpdated key (countFirst spot) m v t₁)) (K .counts) (data-sound key v t₁ b (K .sound) spot (K .begun))
+    let c : ℕ = countFirst spot in
+    let n : Counts = countsAt t c in
+    let t₁ : List ℕ = anew v t (keyArea c n) 0 (keySent key n) in
+    let K : Still t t₁ spot = key-still v t b S spot B key in
+    subst (λ (m : Counts). Sound (anew v t₁ (dataArea c m) (keySent key n) (m .dl))) (K .counts)
+    (data-still v t₁ b (K .sound) spot (K .begun) (keySent key n) .sound)
 
 -- ---- read back, from any track whose cells of these areas are recorded bytes
 
-recorded-lies : (t : List ℕ) (a : Area) → recorded t a ≡ true → a .first + a .bytes + 2 ≤ length t
-unfolding recorded
-recorded-lies t a e =
-    omega (arith, length-areaCells t a, eqb-true (length (areaCells t a)) (a .bytes + 2) (first-of (eqb (length (areaCells t a)) (a .bytes + 2)) _ e))
+-- what an area recorded anew leaves: the length, the cells before it, and the area
+record Anew (t t′ : List ℕ) (a : Area) (P : Type 0) (w : List ℕ) : Type 0 where
+  long : length t′ ≡ length t
+  before : (i : ℕ) → i < a .first → getD t′ i 0 ≡ getD t i 0
+  holds : P → Holds t′ a w
 
-front-recorded : (t : List ℕ) (y : Bool) (a : Area) (l : List Area) → allRecorded t (areaIf y a ++ l) ≡ true → y ≡ true → recorded t a ≡ true
-unfolding allRecorded areaIf
-front-recorded t true a l e q = first-of (recorded t a) _ e
-front-recorded t false a l e q = absurd (false≢true q)
+anew-back : (v t : List ℕ) → Bytes v → (a : Area) (from n : ℕ) → (0 < n → (n ≡ a .bytes) × (a .first + n + 2 ≤ length t))
+    → Anew t (anew v t a from n) a (0 < n) (padded n (part v from n))
+anew-back v t b a from n f = go (ltb 0 n) refl
+  where
+    w : List ℕ
+    w = padded n (part v from n)
 
-back-recorded : (t : List ℕ) (y : Bool) (a : Area) (l : List Area) → allRecorded t (areaIf y a ++ l) ≡ true → allRecorded t l ≡ true
-unfolding allRecorded areaIf
-back-recorded t true a l e = second-of (recorded t a) _ e
-back-recorded t false a l e = e
+    wb : Bytes w
+    wb = sent-bytes v n from n b
 
-module _ (key : Bool) (v t : List ℕ) (c : ℕ) (b : Bytes v) (A : allRecorded t (named c key true (countsAt t c)) ≡ true) where
-  abbrev m : Counts
-  m = countsAt t c
+    go : (y : Bool) → ltb 0 n ≡ y → Anew t (pick y (overlay t (a .first) (Area.laid w)) t) a (0 < n) w
+    go true e =
+        let q = f (ltb-true 0 n e) in
+        let wl : length w ≡ a .bytes = length-padded n (part v from n) ∙ q .0 in
+        let ends : a .first + a .bytes + 2 ≤ length t = omega (arith, q .0, q .1) in
+        record { long = over-long t a w wb wl ends; before = over-before t a w wb wl ends; holds = λ _. over-holds t a w wb wl ends }
+    go false e = record { long = refl; before = λ i h. refl; holds = λ h. absurd (omega (arith, ltb-false 0 n e)) }
 
-  key-lies : 0 < keySent key m → keyArea c m .first + m .kl + 2 ≤ length t
-  unfolding named keyArea
-  key-lies h =
-      recorded-lies t (keyArea c m)
-      (front-recorded t (both key (ltb 0 (m .kl))) (keyArea c m) (areaIf (ltb 0 (m .dl)) (dataArea c m)) A (key-named key m h))
-
-  data-lies : 0 < m .dl → dataArea c m .first + dataBytes m + 2 ≤ length t
-  unfolding named dataArea
-  data-lies h =
-      let l : List Area = areaIf (ltb 0 (m .dl)) (dataArea c m) in
-      let r : allRecorded t l ≡ true = back-recorded t (both key (ltb 0 (m .kl))) (keyArea c m) l A in
-      recorded-lies t (dataArea c m)
-      (front-recorded t (ltb 0 (m .dl)) (dataArea c m) [] (ap (allRecorded t) (append-nil l) ∙ r) (lt-ltb 0 (m .dl) h))
-
-  -- what an area recorded anew leaves: the length, the cells before it, and the area
-  record Anew (t₀ t₁ : List ℕ) (a : Area) (P : Type 0) (w : List ℕ) : Type 0 where
-    long : length t₁ ≡ length t₀
-    before : (i : ℕ) → i < a .first → getD t₁ i 0 ≡ getD t₀ i 0
-    holds : P → Holds t₁ a w
-
-  key-anew : Anew t (keyUpdated key c m v t) (keyArea c m) (0 < keySent key m) (padded (m .kl) (part v 0 (m .kl)))
-  unfolding keyUpdated areaWritten keyArea
-  key-anew = go (ltb 0 (keySent key m)) refl
-    where
-      w : List ℕ
-      w = padded (m .kl) (part v 0 (m .kl))
-
-      wb : Bytes w
-      wb = sent-bytes v (m .kl) 0 (m .kl) b
-
-      wl : length w ≡ m .kl
-      wl = length-padded (m .kl) (part v 0 (m .kl))
-
-      go : (y : Bool) → ltb 0 (keySent key m) ≡ y
-          → Anew t (pick y (areaWritten t (keyArea c m .first) (part v 0 (m .kl)) (m .kl)) t) (keyArea c m) (0 < keySent key m) w
-      go true e =
-          let h = key-lies (ltb-true 0 (keySent key m) e) in
-          record {
-            long = over-long t (keyArea c m) w wb wl h;
-            before = over-before t (keyArea c m) w wb wl h;
-            holds = λ _. over-holds t (keyArea c m) w wb wl h;
-          }
-      go false e = record { long = refl; before = λ i h. refl; holds = λ h. absurd (omega (arith, ltb-false 0 (keySent key m) e)) }
-
-  data-anew : (t₁ : List ℕ) → length t₁ ≡ length t
-      → Anew t₁ (dataUpdated key c m v t₁) (dataArea c m) (0 < m .dl) (padded (m .dl) (part v (keySent key m) (m .dl)))
-  unfolding dataUpdated areaWritten dataArea
-  data-anew t₁ l = go (ltb 0 (m .dl)) refl
-    where
-      w : List ℕ
-      w = padded (m .dl) (part v (keySent key m) (m .dl))
-
-      wb : Bytes w
-      wb = sent-bytes v (m .dl) (keySent key m) (m .dl) b
-
-      go : (y : Bool) → ltb 0 (m .dl) ≡ y
-          → Anew t₁ (pick y (areaWritten t₁ (dataArea c m .first) (part v (keySent key m) (m .dl)) (m .dl)) t₁) (dataArea c m) (0 < m .dl) w
-      go true e =
-          let h : 0 < m .dl = ltb-true 0 (m .dl) e in
-          let wl : length w ≡ dataBytes m = omega (arith, length-padded (m .dl) (part v (keySent key m) (m .dl))) in
-          let ends : dataArea c m .first + dataBytes m + 2 ≤ length t₁ = omega (arith, data-lies h) in
-          record {
-            long = over-long t₁ (dataArea c m) w wb wl ends;
-            before = over-before t₁ (dataArea c m) w wb wl ends;
-            holds = λ _. over-holds t₁ (dataArea c m) w wb wl ends;
-          }
-      go false e = record { long = refl; before = λ i h. refl; holds = λ h. absurd (omega (arith, ltb-false 0 (m .dl) e)) }
-
-  pub update-back : UpdateBack key v t (dataUpdated key c m v (keyUpdated key c m v t)) c
-  unfolding keyArea dataArea
-  update-back =
-      let t₁ : List ℕ = keyUpdated key c m v t in
-      let t₂ : List ℕ = dataUpdated key c m v t₁ in
-      let K = key-anew in
-      let D = data-anew t₁ (K .long) in
-      record {
-        counts = counts-kept t₁ t₂ (dataArea c m .first) (D .long) (D .before) c (omega arith)
-            ∙ counts-kept t t₁ (keyArea c m .first) (K .long) (K .before) c (omega arith);
-        keyed = λ h.
-            let z = key-there key m h in
-            let e : areaCells t₂ (keyArea c m) ≡ areaCells t₁ (keyArea c m) =
-            area-kept t₁ t₂ (dataArea c m .first) (D .long) (D .before) (keyArea c m) (omega (arith, some-key m (λ q. omega arith))) in
-            record {
-              reads = same-readable t₁ t₂ (keyArea c m) e ∙ K .holds h .reads;
-              bytes = same-bytes t₁ t₂ (keyArea c m) e ∙ K .holds h .bytes;
-            };
-        body = D .holds;
-      }
+pub update-back : (key : Bool) (v t : List ℕ) (c : ℕ) → Bytes v → allRecorded t (named c key true (countsAt t c)) ≡ true
+    → UpdateBack key v t (updated key v c (countsAt t c) t) c
+unfolding keyArea dataArea
+update-back key v t c b A =
+    let n : Counts = countsAt t c in
+    let m : ℕ = keySent key n in
+    let O : Over t key c n = over-in t key c n A in
+    let t₁ : List ℕ = anew v t (keyArea c n) 0 m in
+    let t₂ : List ℕ = anew v t₁ (dataArea c n) m (n .dl) in
+    let K : Anew t t₁ (keyArea c n) (0 < m) (padded m (part v 0 m)) =
+    anew-back v t b (keyArea c n) 0 m (λ h. (key-there key n h, omega (arith, O .key-in h, key-there key n h))) in
+    let D : Anew t₁ t₂ (dataArea c n) (0 < n .dl) (padded (n .dl) (part v m (n .dl))) =
+    anew-back v t₁ b (dataArea c n) m (n .dl) (λ h. (omega arith, omega (arith, O .data-in h, K .long))) in
+    record {
+      counts = counts-kept t₁ t₂ (dataArea c n .first) (D .long) (D .before) c (omega arith)
+          ∙ counts-kept t t₁ (keyArea c n .first) (K .long) (K .before) c (omega arith);
+      keyed = λ h.
+          let z : m ≡ n .kl = key-there key n h in
+          let e : areaCells t₂ (keyArea c n) ≡ areaCells t₁ (keyArea c n) =
+          area-kept t₁ t₂ (dataArea c n .first) (D .long) (D .before) (keyArea c n) (omega (arith, some-key n (λ q. omega (arith, h, z, q)))) in
+          subst (λ (k : ℕ). Holds t₂ (keyArea c n) (padded k (part v 0 k))) z
+          (record {
+            reads = same-readable t₁ t₂ (keyArea c n) e ∙ K .holds h .reads;
+            bytes = same-bytes t₁ t₂ (keyArea c n) e ∙ K .holds h .bytes;
+          });
+      body = D .holds;
+    }

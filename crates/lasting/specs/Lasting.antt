@@ -1,11 +1,11 @@
--- Document 01, "What lies on a track" and "Commands", the writes: what each of them leaves on a track. Write R0 leaves a soundly written
--- track whatever lay behind the home address, which it read first; 1D, 05 and 0D leave one if the track was; Write HA leaves a readable
--- home address and zeros from cell 7, which is not soundly written until a Write R0. Reading back returns the bytes written. A command
--- ending in Unit Check changes no track cell. Assumes nothing.
+-- Document 01, "What lies on a track" and "Commands", the writes: what each of them leaves on the track under the head. Write R0 leaves a soundly
+-- written track whatever lay behind the home address, which it read first; 1D, 05 and 0D leave one if the track was; Write HA leaves a readable home
+-- address and zeros from cell 7, which is not soundly written until a Write R0. Reading back returns the bytes written. A command ending in Unit Check
+-- changes no track cell.
 use Prim.Native.Nat.{ℕ, _+_, _<_, _≤_}
 use mathlib.Core.Path.{_≡_}
-use mathlib.Core.Bool.{Bool, true, false}
-use mathlib.Core.List.{List, _∷_}
+use mathlib.Core.Bool.{Bool, true}
+use mathlib.Core.List.{List, [], _∷_}
 use lib.ListN.{length, getD}
 use Rattle.cells.specs.Bytes.{part, padded}
 use Rattle.cells.specs.Cells.{trackCells, gap}
@@ -16,14 +16,15 @@ use Rattle.areas.specs.Flags.{flagOfZero, flagAfter}
 use Rattle.hunt.specs.declared.Spot.{Spot}
 use Rattle.hunt.specs.Hunt.{countFirst}
 use Rattle.recording.specs.Recording.{countSent}
-use Rattle.commands.specs.declared.Write.{Write}
-use Rattle.commands.specs.declared.Write.the-variants.{WriteHome, WriteZero, WriteRecord, WriteData, WriteKeyData}
+use Rattle.held.specs.declared.Selection.{Selection}
+use Rattle.held.specs.declared.Selection.the-variants.{On}
 use Rattle.held.specs.declared.Orders.{Orders}
 use Rattle.outcome.specs.declared.Ending.the-variants.{Check}
-use Rattle.licence.specs.declared.Aim.the-variants.{Takes}
-use Rattle.licence.specs.Licence.{aim}
 use Rattle.laying.specs.Laying.{newCounts}
-use Rattle.write.specs.Write.{keySent, WriteDone}
+use Rattle.table.specs.declared.Write.{Write}
+use Rattle.table.specs.declared.Write.the-variants as Write
+use Rattle.turn.specs.Turn.{Turn, laid}
+use Rattle.command.specs.Command.{keySent}
 use Rattle.sound.specs.Sound.{flagAt, endAt, Sound}
 
 -- ---- is the track left soundly written
@@ -37,13 +38,12 @@ pub record HomeOnly (t : List ℕ) : Type 0 where
 
 -- a write that was done on the track t left t′
 unfoldable pub Lasts : Write → List ℕ → List ℕ → Type 0
-Lasts WriteHome t t′ = HomeOnly t′
-Lasts WriteZero t t′ = Sound t′
-Lasts WriteRecord t t′ = Sound t → Sound t′
-Lasts WriteData t t′ = Sound t → Sound t′
-Lasts WriteKeyData t t′ = Sound t → Sound t′
+Lasts Write.HomeAddress t t′ = HomeOnly t′
+Lasts Write.R0 t t′ = Sound t′
+Lasts Write.CountKeyData t t′ = Sound t → Sound t′
+Lasts (Write.Update key) t t′ = Sound t → Sound t′
 
--- ---- reading back returns the bytes written; v are those at the word's address, with zeros for those that are missing
+-- ---- reading back returns the bytes written; v are those sent, with zeros for those that are missing
 
 -- an area can be read, and these are its bytes
 pub record Holds (t : List ℕ) (a : Area) (v : List ℕ) : Type 0 where
@@ -69,16 +69,22 @@ pub record UpdateBack (key : Bool) (v t t′ : List ℕ) (c : ℕ) : Type 0 wher
 
 -- a write that took the record whose count area is at c; 1D writes after it
 unfoldable pub ReadsBack : Write → ℕ → List ℕ → List ℕ → List ℕ → Type 0
-ReadsBack WriteHome c v t t′ = Holds t′ homeArea (padded homeBytes v)
-ReadsBack WriteZero c v t t′ = NewBack (flagOfZero (homeFlag t)) v t′ zeroFirst
-ReadsBack WriteRecord c v t t′ = NewBack (flagAfter (flagAt t c)) v t′ (endAt t c + 1)
-ReadsBack WriteData c v t t′ = UpdateBack false v t t′ c
-ReadsBack WriteKeyData c v t t′ = UpdateBack true v t t′ c
+ReadsBack Write.HomeAddress c v t t′ = Holds t′ homeArea (padded homeBytes v)
+ReadsBack Write.R0 c v t t′ = NewBack (flagOfZero (homeFlag t)) v t′ zeroFirst
+ReadsBack Write.CountKeyData c v t t′ = NewBack (flagAfter (flagAt t c)) v t′ (endAt t c + 1)
+ReadsBack (Write.Update key) c v t t′ = UpdateBack key v t t′ c
 
--- ---- the command, with the bytes v at the word's address, on the track t
+-- the record that a write takes is the one selected; Write HA and Write R0 take none
+unfoldable pub Took : Write → Selection → Spot → Type 0
+Took Write.HomeAddress x spot = Unit {0}
+Took Write.R0 x spot = Unit {0}
+Took Write.CountKeyData x spot = x ≡ On spot
+Took (Write.Update key) x spot = x ≡ On spot
+
+-- ---- the command's turn, with the bytes v sent, on the track t under the head
 
 -- it ended in Unit Check and no cell changed; or it did not, and what it left lasts and can be read back
-pub data Leaves (k : Write) (o : Orders) (v t : List ℕ) (x : WriteDone) : Type 0 where
-  unchanged : (row : Row) → x .done .ending ≡ Check row → x .track ≡ t → Leaves k o v t x
-  written : (spot : Spot) → aim k o ≡ Takes spot → ((row : Row) → x .done .ending ≡ Check row → ⊥)
-      → Lasts k t (x .track) → ReadsBack k (countFirst spot) v t (x .track) → Leaves k o v t x
+pub data Leaves (w : Write) (o : Orders) (v t : List ℕ) (x : Turn) : Type 0 where
+  unchanged : (row : Row) → x .ending ≡ Check row → x .lays ≡ [] → Leaves w o v t x
+  written : (spot : Spot) → Took w (o .selection) spot → ((row : Row) → x .ending ≡ Check row → ⊥)
+      → Lasts w t (laid (x .lays) t) → ReadsBack w (countFirst spot) v t (laid (x .lays) t) → Leaves w o v t x

@@ -2,7 +2,7 @@
 -- Assumes nothing.
 use mathlib.Core.Path.{sym, _∙_}
 use borrow.Author.Tests.{not-true, not-false}
-use Rattle.host.proofs.Laws.{stands-standing}
+use Rattle.chain.proofs.Fits.{stands-on}
 use Rattle.host.proofs.Tells.{bad-stands, bad-channel, by-orders}
 use borrow.Author.Needs.{needs}
 use Rattle.host.proofs.held_fits.Statement.{statement}
@@ -27,7 +27,7 @@ start-of-requires c κs =
     let k = c .before .before .before in
     let b = k .before .before .before in
     let s = b .before .before .before .before in
-    (s .pre .cylinders, s .pre .heads, stands-standing _ _ (sym (b .before .stands-fit .ensures) ∙ not-false _ (b .if1 .left)) .on)
+    (s .pre .cylinders, s .pre .heads, stands-on _ _ (sym (b .before .stands-fit .ensures) ∙ not-false _ (b .if1 .left)))
 
 add-orders-fit : tie.Need-add-orders-fit
 add-orders-fit c = search needs
@@ -62,6 +62,7 @@ held-fits-spec =
     channel-fits-requires
     returns-2
     start-of-requires
+    (λ c. search needs)
     add-orders-fit
     mul-orders-fit
     sub-orders-fit

@@ -5,7 +5,7 @@ use Rattle.host.proofs.selection_fits.Statement.{statement}
 use Rattle.host.proofs.selection_fits.Tie as tie
 
 returns : tie.Need-returns
-returns c = none-selected _ _ _ _ (c .before .enum-told .given .1) (c .rule-of .ensures)
+returns c = none-selected _ _ _ _ (c .before .before .enum-told .given .1) (c .before .rule-of .ensures)
 
 returns-2 : tie.Need-returns-2
 returns-2 c = some-selected _ _ _ _ _ (c .before .before .x .given .1) (c .spot-fits .ensures)

@@ -1,6 +1,6 @@
 -- `host::stands_fit` meets its contract: it makes the model's tests. Assumes nothing.
 use Rattle.cells.proofs.Tests.{tests}
-use Rattle.host.specs.Host.{standsFit}
+use Rattle.chain.specs.Legal.{standsFit}
 use borrow.Author.Needs.{needs}
 use Rattle.host.proofs.stands_fit.Statement.{statement}
 use Rattle.host.proofs.stands_fit.Tie as tie

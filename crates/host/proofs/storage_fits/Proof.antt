@@ -1,6 +1,6 @@
 -- `host::storage_fits` meets its contract: it makes the model's tests. Assumes nothing.
 use Rattle.cells.proofs.Tests.{tests}
-use Rattle.host.specs.Host.{storageFits}
+use Rattle.chain.specs.Legal.{storageFits}
 use Rattle.host.proofs.storage_fits.Statement.{statement}
 use Rattle.host.proofs.storage_fits.Tie as tie
 

@@ -1,2 +1,0 @@
--- Laws of the bytes that Sense moves, and of putting them into storage.
-pub mod Laws

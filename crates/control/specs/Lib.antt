@@ -1,2 +1,0 @@
--- The model of the control commands.
-pub mod Control

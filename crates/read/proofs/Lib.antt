@@ -1,2 +1,0 @@
--- Laws of the reads.
-pub mod Laws

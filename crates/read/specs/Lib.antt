@@ -1,3 +1,0 @@
--- The model of the reads.
-pub mod Read
-pub mod Inside

@@ -1,3 +1,0 @@
--- Laws of the writes.
-pub mod Kept
-pub mod Calls

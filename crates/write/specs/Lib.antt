@@ -1,3 +1,0 @@
--- The model of the writes.
-pub mod Write
-pub mod Inside
