@@ -2,8 +2,10 @@
 mod areas;
 #[cfg(before)]
 mod before;
+mod chain;
 mod check;
 mod common;
+mod control;
 mod format;
 mod growth;
 mod library;
@@ -21,7 +23,7 @@ mod table;
 use part::{Part, Row};
 use std::process::ExitCode;
 
-static PARTS: [&Part; 5] = [&check::PART, &reads::PART, &format::PART, &search::PART, &noop::PART];
+static PARTS: [&Part; 6] = [&check::PART, &reads::PART, &format::PART, &search::PART, &noop::PART, &control::PART];
 const GROWTH: &str = "growth";
 
 fn compare() -> Result<(), String> {

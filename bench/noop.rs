@@ -1,7 +1,8 @@
 // A chain of No-op command words against a plain loop in Rust; and what a refusal costs.
+use crate::chain::{Chain, Command, MODULUS};
 use crate::common::{
-    chained, in_turn, storage_with, thousands, timed, word, Lent, FIRST, FLAG_CHAIN, FLAG_LENGTH, FULL, NO_OP, ONE,
-    STATUS, TIC, WORDS,
+    chained, in_turn, storage_with, thousands, timed, word, Lent, FIRST, FLAG_CHAIN, FULL, NO_OP, ONE, STATUS, TIC,
+    WORDS,
 };
 use crate::library::NOW;
 use crate::part::{Part, Side};
@@ -19,7 +20,7 @@ pub const PART: Part = Part {
     wanted_before: Some(1.03),
     compare,
     times,
-    chains,
+    chains: || vec![Lent { storage: laid(WORDS), cells: vec![0; TRACK_CELLS], shape: ONE }],
     besides,
 };
 
@@ -30,8 +31,6 @@ fn what() -> String {
 // A refusal is too short to be timed alone.
 const REFUSALS: usize = 10_000;
 
-const MODULUS: u32 = 1 << 24;
-
 fn no_ops(n: usize) -> impl Iterator<Item = [u8; 8]> {
     (0..n).map(move |i| word(NO_OP, 0, chained(i, n), 1))
 }
@@ -40,123 +39,17 @@ pub fn laid(n: usize) -> Vec<u8> {
     storage_with(FIRST + 8 * n, no_ops(n))
 }
 
-// What a chain of No-ops and TICs changes in a held state.
-struct Chain {
-    going: bool,
-    key: u8,
-    after_tic: bool,
-    before: u8,
-    whole: bool,
-    tally: u8,
-    selection: Option<u16>,
-    next: u32,
-}
-
-impl Chain {
-    fn of(held: &[u8; HELD_SIZE]) -> Chain {
-        Chain {
-            going: held[0] == 1,
-            key: held[1],
-            after_tic: held[6] == 1,
-            before: held[7],
-            whole: held[8] == 1,
-            tally: held[9],
-            selection: (held[10] != 0).then_some(u16::from_be_bytes([held[12], held[13]])),
-            next: u32::from_be_bytes([held[20], held[21], held[22], held[23]]),
-        }
-    }
-
-    fn put(&self, held: &mut [u8; HELD_SIZE]) {
-        if !self.going {
-            // The key and the mask go with the chain.
-            held[1..4].fill(0);
-        }
-        held[0] = u8::from(self.going);
-        held[6] = u8::from(self.after_tic);
-        held[7] = self.before;
-        held[8] = u8::from(self.whole);
-        held[9] = self.tally;
-        held[10] = if self.selection.is_some() { 2 } else { 0 };
-        held[12..14].copy_from_slice(&self.selection.unwrap_or(0).to_be_bytes());
-        held[20..24].copy_from_slice(&self.next.to_be_bytes());
-    }
-
-    // The chain's end.
-    fn end(&mut self, storage: &mut [u8], unit: u8, channel: u8, left: u16) {
-        let [_, a, b, c] = ((self.next + 8) % MODULUS).to_be_bytes();
-        let [high, low] = left.to_be_bytes();
-        storage[STATUS].copy_from_slice(&[self.key * 16, a, b, c, unit, channel, high, low]);
-        *self = Chain {
-            going: false,
-            key: 0,
-            after_tic: false,
-            before: 0,
-            whole: false,
-            tally: 0,
-            selection: None,
-            next: 0,
-        };
-    }
-
-    // One word; false for a command that is not built here.
-    fn step(&mut self, storage: &mut [u8]) -> bool {
-        let at = self.next as usize;
-        if at % 8 != 0 || storage.len() < at + 8 {
-            self.end(storage, 0, 0x20, 0);
-            return true;
-        }
-        let word = &storage[at..at + 8];
-        let code = word[0];
-        let address = u32::from_be_bytes([0, word[1], word[2], word[3]]);
-        let flags = word[4];
-        let count = u16::from_be_bytes([word[6], word[7]]);
-        if code % 16 == 8 {
-            if self.after_tic {
-                self.end(storage, 0, 0x20, 0);
-            } else {
-                self.after_tic = true;
-                self.next = address;
-            }
-            return true;
-        }
-        if flags & !(FLAG_CHAIN | FLAG_LENGTH) != 0
-            || count == 0
-            || code % 16 == 0
-            || storage.len() < address as usize + usize::from(count)
-        {
-            self.end(storage, 0, 0x20, 0);
-            return true;
-        }
-        if code != NO_OP {
-            return false;
-        }
-        self.no_op(storage, flags, count);
-        true
-    }
-
-    #[inline(always)]
-    fn no_op(&mut self, storage: &mut [u8], flags: u8, count: u16) {
-        self.before = NO_OP;
-        self.whole = false;
-        self.tally = 0;
-        self.selection = None;
-        if flags & FLAG_CHAIN == 0 {
-            self.end(storage, 0x0C, 0, count);
-            return;
-        }
-        self.after_tic = false;
-        self.next = (self.next + 8) % MODULUS;
-    }
-}
-
 // The plain loop. None where it met a command that is not built here.
 #[inline(never)]
 fn plain(held: &mut [u8; HELD_SIZE], storage: &mut [u8], allowance: u16) -> Option<Answer> {
     let mut chain = Chain::of(held);
     let mut left = allowance;
     while left > 0 && chain.going {
-        if !chain.step(storage) {
-            return None;
+        if let Some(Command { code, flags, count, .. }) = chain.step(storage) {
+            if code != NO_OP {
+                return None;
+            }
+            chain.done(storage, NO_OP, flags, count);
         }
         left -= 1;
     }
@@ -330,23 +223,6 @@ fn refusals() -> Result<Vec<f64>, String> {
         helds.push(Held::from_bytes(bytes));
     }
     in_turn(ROUNDS, &[0, 1], |&i| refused(&mut helds[i], &mut storage, &mut packs[i]))
-}
-
-// Every control command once. The six bytes at 160 are a seek's address and a mask; the last ends in a Unit Check.
-fn controls() -> Vec<u8> {
-    const AREA: u32 = 160;
-    let words = [(0x03, 1), (0x04, 6), (0x1F, 1), (0x07, 6), (0x0B, 6), (0x1B, 6), (0x0F, 1)];
-    let words = words.map(|(code, count)| {
-        let at = if code == 0x04 { AREA + 8 } else { AREA };
-        word(code, at, FLAG_CHAIN, count)
-    });
-    let mut storage = storage_with(1024, words.into_iter());
-    storage[AREA as usize..][..6].fill(0);
-    storage
-}
-
-fn chains() -> Vec<Lent> {
-    [laid(WORDS), controls()].map(|storage| Lent { storage, cells: vec![0; TRACK_CELLS], shape: ONE }).into()
 }
 
 fn besides() -> Result<(), String> {

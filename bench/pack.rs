@@ -178,10 +178,15 @@ pub fn ended(sense: [u8; 2], (cylinder, head): (u16, u16), place: u16) -> [u8; H
 
 // The chain ended, and left this in storage and held.
 pub fn same(what: &str, begun: &Started, answer: Answer, should: &Left) -> Result<(), String> {
-    let (storage, held) = should;
     if answer != Answer::Ended {
         return Err(format!("{what}: the answer is {answer:?}"));
     }
+    same_left(what, begun, should)
+}
+
+// It left this in storage and held, whether it ended or not.
+pub fn same_left(what: &str, begun: &Started, should: &Left) -> Result<(), String> {
+    let (storage, held) = should;
     if begun.held != *held {
         let is = begun.held;
         return Err(format!("{what}: held differs: {is:02X?}, not {held:02X?}"));

@@ -50,7 +50,7 @@ fn stack_over(pattern: u8, lent: &mut Lent) -> Result<usize, String> {
     paint(top, pattern);
     let answer = poplar::go(&mut held, &mut begun.storage, cells, *shape, WORDS as u16);
     let deep = deepest(top, pattern);
-    if answer != Answer::Ended {
+    if !matches!(answer, Answer::Ended | Answer::NotEnded) {
         return Err(format!("the stack's go answers {answer:?}"));
     }
     if deep == PAINTED {
