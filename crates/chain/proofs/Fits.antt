@@ -14,7 +14,7 @@ use Rattle.hunt.specs.Hunt.{spotFits}
 use Rattle.pack.specs.declared.Shape.{Shape}
 use Rattle.pack.specs.Shapes.{cylinderOn, headOn}
 use Rattle.pack.specs.Tracks as Tracks
-use Rattle.plan.specs.Plan.{mostTally, SelectedOn}
+use Rattle.command.specs.Command.{mostTally, SelectedOn}
 use Rattle.command.proofs.Plans.{Leaves}
 use Rattle.table.specs.Table.{ruleOf}
 use Rattle.held.specs.declared.Selection.{Selection}
@@ -22,7 +22,7 @@ use Rattle.held.specs.declared.Selection.the-variants.{Nothing, On}
 use Rattle.held.specs.declared.Stands.{Stands}
 use Rattle.held.specs.declared.Orders.{Orders}
 use Rattle.held.specs.declared.Channel.{Channel}
-use Rattle.outcome.specs.Outcome.{after, ordered}
+use Rattle.turn.specs.Turn.{after, ordered}
 use Rattle.chain.specs.Legal.{keys, standsFit, channelFits, selectionFits, ordersFit}
 
 -- ---- where the head stands

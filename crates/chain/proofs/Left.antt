@@ -37,15 +37,15 @@ use Rattle.held.specs.declared.Selection.{Selection}
 use Rattle.held.specs.declared.Selection.the-variants.{Nothing, On}
 use Rattle.held.specs.declared.Stands.{Stands}
 use Rattle.held.specs.declared.Orders.{Orders}
-use Rattle.outcome.specs.declared.Ending.{Ending}
-use Rattle.outcome.specs.declared.Ending.the-variants.{Normal, Exception}
-use Rattle.outcome.specs.Outcome.{standing, sensing, sought, ordered, after}
+use Rattle.turn.specs.declared.Ending.{Ending}
+use Rattle.turn.specs.declared.Ending.the-variants.{Normal, Exception}
+use Rattle.turn.specs.Turn.{standing, sensing, sought, ordered, after}
 use Rattle.laying.specs.Laying.{newCounts, newRecord, formatted}
 use Rattle.laying.proofs.Laws.{length-area, length-new, formatted-inside}
-use Rattle.plan.specs.Plan.{mostTally}
-use Rattle.work.specs.Work.{named}
-use Rattle.work.specs.declared.Got.{Got}
-use Rattle.work.specs.declared.Got.the-variants.{Sees, Fails}
+use Rattle.command.specs.Command.{mostTally}
+use Rattle.command.specs.Command.{named}
+use Rattle.command.specs.declared.Got.{Got}
+use Rattle.command.specs.declared.Got.the-variants.{Sees, Fails}
 use Rattle.table.specs.declared.Aim.{Aim}
 use Rattle.table.specs.declared.Aim.the-variants as Aim
 use Rattle.table.specs.declared.Control.{Control}

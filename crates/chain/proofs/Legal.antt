@@ -27,8 +27,8 @@ use Rattle.hunt.specs.Hunt as Hunt
 use Rattle.held.specs.declared.Stands.{Stands}
 use Rattle.held.specs.declared.Held.{Held}
 use Rattle.held.specs.Held.{fresh, freshOrders, freshChannel, rested}
-use Rattle.outcome.specs.Outcome.{ordered}
-use Rattle.settle.specs.Settle.{onward, stride}
+use Rattle.turn.specs.Turn.{ordered}
+use Rattle.channel.specs.Channel.{onward, stride}
 use Rattle.table.specs.Table.{controls, searches, reads, writes, find, ruleOf}
 use Rattle.turn.specs.Turn.{Turn, given, toldOf, laid}
 use Rattle.command.proofs.Pieces.{length-laid}

@@ -22,9 +22,9 @@ use Rattle.held.specs.declared.Stands.{Stands}
 use Rattle.held.specs.declared.Held.{Held}
 use Rattle.held.specs.declared.Orders.{Orders}
 use Rattle.held.specs.declared.Selection.the-variants.{Nothing}
-use Rattle.outcome.specs.declared.Ending.the-variants.{Normal}
-use Rattle.outcome.specs.Outcome.{standing, after, ordered}
-use Rattle.settle.specs.Settle.{endsWell, stride, onward}
+use Rattle.turn.specs.declared.Ending.the-variants.{Normal}
+use Rattle.turn.specs.Turn.{standing, after, ordered}
+use Rattle.channel.specs.Channel.{endsWell, stride, onward}
 use Rattle.table.specs.Table.{ruleOf, find, controls}
 use Rattle.turn.specs.Turn.{Tracks, None, movingOf, given, Turn, turn, toldOf}
 use Rattle.command.specs.Command.{licensed, aimed, unlessBarred, plans, areasOf, allRead, countsIn, gets, areasRead, sight, standsAfter, senseAfter, ordersAfter, endsAt, ends, rests, does, acts, hasRead, readyBy, planReads, turnBy, obeys, command}

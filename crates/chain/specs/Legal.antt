@@ -13,7 +13,7 @@ use Rattle.hunt.specs.Hunt.{spotFits}
 use Rattle.pack.specs.declared.Shape.{Shape}
 use Rattle.pack.specs.Shapes.{cylinderOn, headOn}
 use Rattle.pack.specs.Tracks.{Whole}
-use Rattle.plan.specs.Plan.{mostTally}
+use Rattle.command.specs.Command.{mostTally}
 use Rattle.table.specs.Table.{ruleOf}
 use Rattle.held.specs.declared.Selection.{Selection}
 use Rattle.held.specs.declared.Selection.the-variants.{Nothing, On}

@@ -13,7 +13,7 @@ use Rattle.words.specs.Words.{chains}
 use Rattle.pack.specs.declared.Shape.{Shape}
 use Rattle.held.specs.declared.Held.{Held}
 use Rattle.held.specs.declared.Selection.the-variants.{Nothing}
-use Rattle.outcome.specs.Outcome.{after}
+use Rattle.turn.specs.Turn.{after}
 use Rattle.chain.specs.Step.{world, run}
 use Rattle.chain.specs.Legal.{Legal}
 

@@ -35,13 +35,7 @@ fn command(g: Shape, h: Held, w: Word, storage: &mut [u8], cells: &mut [u16]) ->
     let cylinder = stands.cylinder;
     let head = stands.head;
     let start = pack::start_of(g, cylinder, head);
-    channel::obey(
-        g,
-        h,
-        w,
-        storage,
-        &mut cells[start..start + TRACK_CELLS],
-    )
+    channel::obey(g, h, w, storage, &mut cells[start..start + TRACK_CELLS])
 }
 
 // A TIC.

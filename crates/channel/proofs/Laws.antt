@@ -15,7 +15,7 @@ use Rattle.words.specs.Words.{chains, suppresses}
 use Rattle.words.specs.Status.{Storable, stored, statusFor}
 use Rattle.held.specs.declared.Channel.{Channel}
 use Rattle.held.specs.Held.{rested}
-use Rattle.settle.specs.Settle.{endsWell, stride, onward}
+use Rattle.channel.specs.Channel.{endsWell, stride, onward}
 use Rattle.turn.specs.declared.Told.{Told}
 use Rattle.turn.specs.Turn.{wants}
 use Rattle.channel.specs.Channel.{moved, lengthCounts, wrongLength, goesOn, statusAfter, heldAfter, withStatus}

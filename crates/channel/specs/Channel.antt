@@ -9,13 +9,14 @@ use Rattle.cells.specs.Choice.{pick, both, either}
 use Rattle.cells.specs.Bytes.{part, overlay}
 use Rattle.words.specs.declared.Word.{Word}
 use Rattle.words.specs.declared.Status.{Status}
-use Rattle.words.specs.Words.{chains, suppresses}
+use Rattle.words.specs.Words.{along, chains, suppresses}
 use Rattle.words.specs.Status.{stored, statusFor}
 use Rattle.pack.specs.declared.Shape.{Shape}
 use Rattle.held.specs.declared.Channel.{Channel}
 use Rattle.held.specs.declared.Held.{Held}
 use Rattle.held.specs.Held.{rested}
-use Rattle.settle.specs.Settle.{unitStatus, endsWell, stride, onward}
+use Rattle.turn.specs.declared.Ending.{Ending}
+use Rattle.turn.specs.declared.Ending.the-variants.{Normal, Satisfied, Exception, Check}
 use Rattle.turn.specs.declared.Moving.{Moving}
 use Rattle.turn.specs.declared.Moving.the-variants as Moving
 use Rattle.turn.specs.declared.Told.{Told}
@@ -49,10 +50,37 @@ unfoldable pub wrongLength : Word → Told → Bool
 wrongLength w d =
     both (lengthCounts d) (both (not (suppresses w)) (either (ltb (moved w d) (w .count)) (ltb (w .count) (wants (d .moving)))))
 
+-- ---- by how it ended
+
+-- normal end 0C, search satisfied 4C, Unit Exception 0D, Unit Check 0E
+unfoldable pub unitStatus : Ending → ℕ
+unitStatus Normal = 0x0C
+unitStatus Satisfied = 0x4C
+unitStatus Exception = 0x0D
+unitStatus (Check row) = 0x0E
+
+-- Unit Exception and Unit Check end the chain
+unfoldable pub endsWell : Ending → Bool
+endsWell Normal = true
+endsWell Satisfied = true
+endsWell Exception = false
+endsWell (Check row) = false
+
+-- satisfied: the next command word is 16 on, not 8
+unfoldable pub stride : Ending → ℕ
+stride Normal = 8
+stride Satisfied = 16
+stride Exception = 8
+stride (Check row) = 8
+
 -- ---- the end of a command: the chain goes on, or is at its end
 
 unfoldable pub goesOn : Word → Told → Bool
 goesOn w d = both (chains w) (both (not (wrongLength w d)) (endsWell (d .ending)))
+
+-- the channel goes on to a word so many bytes on, which comes after no TIC
+unfoldable pub onward : Channel → ℕ → Channel
+onward c n = record { going = c .going; key = c .key; next = along (c .next) n; «after_tic» = false }
 
 unfoldable pub heldAfter : Channel → Word → Told → Held
 heldAfter c w d =

@@ -11,7 +11,7 @@ use Rattle.words.specs.Status.{statusAt}
 use Rattle.hunt.specs.Hunt.{Whole}
 use Rattle.pack.specs.declared.Shape.{Shape}
 use Rattle.held.specs.declared.Held.{Held}
-use Rattle.plan.specs.Plan.{SelectedOn}
+use Rattle.command.specs.Command.{SelectedOn}
 use Rattle.turn.specs.declared.Told.{Told}
 use Rattle.turn.specs.Turn.{alone, given, Turn, toldOf, laid, isCheck}
 use Rattle.command.specs.declared.Job.{Job}

@@ -15,12 +15,12 @@ use Rattle.pack.specs.Shapes.{packFits, seekTo, seekHead}
 use Rattle.pack.specs.Tracks.{startOf, trackAt}
 use Rattle.compare.specs.Compare.{compared}
 use Rattle.held.specs.Held.{freshStands, freshOrders, freshChannel, fresh, rested}
-use Rattle.outcome.specs.Outcome.{standing, sensing, sought, ordered, after}
-use Rattle.work.specs.Work.{areaIf, named, namedBy, seeing, idOf, sent}
-use Rattle.licence.specs.Licence.{equalId, equalIdOrKey, homeDone, recordWritten}
-use Rattle.search.specs.Search.{satisfies, found, equalOnly}
+use Rattle.turn.specs.Turn.{standing, sensing, sought, ordered, after}
+use Rattle.command.specs.Command.{areaIf, named, namedBy, seeing, idOf, sent}
+use Rattle.command.specs.Command.{equalId, equalIdOrKey, homeDone, recordWritten}
+use Rattle.command.specs.Command.{satisfies, found, equalOnly}
 use Rattle.laying.specs.Laying.{newCounts, newKey, newData, newRecord, recorded}
-use Rattle.settle.specs.Settle.{unitStatus, endsWell, stride, onward}
+use Rattle.channel.specs.Channel.{unitStatus, endsWell, stride, onward}
 use Rattle.table.specs.Table as Table
 use Rattle.turn.specs.Turn as Turn
 use Rattle.command.specs.Command as Command

@@ -36,9 +36,9 @@ use Rattle.held.specs.declared.Orders.{Orders}
 use Rattle.held.specs.declared.Channel.{Channel}
 use Rattle.held.specs.declared.Held.{Held}
 use Rattle.held.specs.Held.{rested}
-use Rattle.outcome.specs.Outcome.{sensing}
-use Rattle.settle.specs.Settle.{unitStatus, endsWell}
-use Rattle.plan.specs.Plan.{SelectedOn}
+use Rattle.turn.specs.Turn.{sensing}
+use Rattle.channel.specs.Channel.{unitStatus, endsWell}
+use Rattle.command.specs.Command.{SelectedOn}
 use Rattle.table.specs.declared.Act.{Act}
 use Rattle.table.specs.declared.Act.the-variants as Act
 use Rattle.table.specs.Table.{ruleOf}

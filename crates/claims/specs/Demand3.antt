@@ -23,7 +23,7 @@ use Rattle.pack.specs.declared.Shape.{Shape}
 use Rattle.pack.specs.Tracks.{trackNo, trackAt}
 use Rattle.held.specs.declared.Held.{Held}
 use Rattle.held.specs.Held.{rested}
-use Rattle.outcome.specs.Outcome.{sensing}
+use Rattle.turn.specs.Turn.{sensing}
 use Rattle.turn.specs.Turn.{Lies}
 use Rattle.chain.specs.Step.{World, world, next, step, run, wordReads, testedWrites}
 use Rattle.sound.specs.Sound.{Sound}

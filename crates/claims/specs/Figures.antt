@@ -23,7 +23,7 @@ use Rattle.compare.specs.declared.Compared.the-variants.{High}
 use Rattle.compare.specs.Compare.{compared}
 use Rattle.held.specs.declared.Stands.{Stands}
 use Rattle.held.specs.Held.{fresh, rested}
-use Rattle.outcome.specs.Outcome.{standing}
+use Rattle.turn.specs.Turn.{standing}
 use Rattle.chain.specs.Step.{world}
 use Rattle.host.specs.declared.Answer.the-variants.{ChainEnded, AllowanceUsed}
 use Rattle.host.specs.Host.{Hears, beginning, starts, goes}

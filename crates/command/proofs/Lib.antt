@@ -3,3 +3,4 @@ pub mod Plans
 pub mod Pieces
 pub mod Moves
 pub mod Comes
+pub mod Seen

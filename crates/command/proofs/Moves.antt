@@ -16,8 +16,8 @@ use Rattle.pack.specs.declared.Sought.{Sought}
 use Rattle.pack.specs.declared.Sought.the-variants as Sought
 use Rattle.held.specs.declared.Stands.{Stands}
 use Rattle.held.specs.declared.Orders.{Orders}
-use Rattle.outcome.specs.declared.Ending.{Ending}
-use Rattle.outcome.specs.declared.Ending.the-variants.{Normal, Satisfied, Exception, Check}
+use Rattle.turn.specs.declared.Ending.{Ending}
+use Rattle.turn.specs.declared.Ending.the-variants.{Normal, Satisfied, Exception, Check}
 use Rattle.table.specs.declared.Control.{Control}
 use Rattle.table.specs.declared.Control.the-variants as Control
 use Rattle.table.specs.declared.Write.{Write}

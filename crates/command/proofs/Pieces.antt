@@ -20,7 +20,7 @@ use Rattle.areas.specs.declared.Counts.{Counts}
 use Rattle.areas.specs.Areas.{keyArea, dataArea}
 use Rattle.hunt.specs.Hunt.{Whole}
 use Rattle.pack.specs.declared.Head.{Head}
-use Rattle.work.specs.Work.{areaIf, named}
+use Rattle.command.specs.Command.{areaIf, named}
 use Rattle.laying.specs.Laying.{recorded, formatted}
 use Rattle.laying.proofs.Laws.{length-area, formatted-is, recorded-lies}
 use Rattle.turn.specs.Turn.{Piece, laid}

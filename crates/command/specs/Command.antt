@@ -1,6 +1,6 @@
 -- Document 01, "Where the head stands" and "Commands": the one way that every command goes, by its row of the table: which record it works on, which
 -- areas it reads there, what it does with them. The rows of the Unit Check table come in its order.
-use Prim.Native.Nat.{ℕ, _+_, _-_}
+use Prim.Native.Nat.{ℕ, _+_, _-_, _/_, _%_}
 use mathlib.Core.Path.{_≡_}
 use mathlib.Core.Bool.{Bool, true, false}
 use mathlib.Core.List.{List, [], _∷_, _++_, map}
@@ -18,17 +18,22 @@ use Rattle.mask.specs.declared.Seeking.the-variants as Seeking
 use Rattle.mask.specs.Mask.{legal, barsSeek, barsWrite}
 use Rattle.house_check.specs.Area.{laid}
 use Rattle.areas.specs.declared.Area.{Area}
+use Rattle.areas.specs.declared.Part.{Part}
+use Rattle.areas.specs.declared.Part.the-variants as Part
 use Rattle.areas.specs.declared.Counts.{Counts}
+use Rattle.areas.specs.declared.CountRead.{CountRead}
+use Rattle.areas.specs.declared.CountRead.the-variants as CountRead
 use Rattle.areas.specs.Areas.{readable, areaBytes, rowOf, homeArea, homeBytes, zeroFirst, countArea, countsAt, readCount, keyArea, dataArea, recordCells, endBy, needed}
 use Rattle.areas.specs.Flags.{flagOfZero, flagAfter}
 use Rattle.hunt.specs.declared.Spot.{Spot}
 use Rattle.hunt.specs.declared.Spot.the-variants as Spot
 use Rattle.hunt.specs.declared.Next.{Next}
 use Rattle.hunt.specs.declared.Next.the-variants as Next
-use Rattle.hunt.specs.Hunt.{countFirst, nextRecord, nextId, spaceRecord}
+use Rattle.hunt.specs.Hunt.{spotFits, countFirst, nextRecord, nextId, spaceRecord}
 use Rattle.room.specs.Room.{fits}
 use Rattle.recording.specs.Recording.{countSent}
 use Rattle.compare.specs.declared.Compared.{Compared}
+use Rattle.compare.specs.declared.Compared.the-variants.{Low, Equal, High}
 use Rattle.compare.specs.Compare.{compared}
 use Rattle.pack.specs.declared.Cylinder.{Cylinder}
 use Rattle.pack.specs.declared.Head.{Head}
@@ -36,21 +41,13 @@ use Rattle.pack.specs.declared.Shape.{Shape}
 use Rattle.pack.specs.declared.Sought.{Sought}
 use Rattle.pack.specs.declared.Sought.the-variants as Sought
 use Rattle.pack.specs.Shapes.{cylinder, head, seekTo, seekHead}
-use Rattle.commands.specs.declared.How.{How}
 use Rattle.held.specs.declared.Selection.{Selection}
 use Rattle.held.specs.declared.Selection.the-variants.{Nothing, On}
 use Rattle.held.specs.declared.Stands.{Stands}
 use Rattle.held.specs.declared.Orders.{Orders}
-use Rattle.work.specs.declared.Got.{Got}
-use Rattle.work.specs.declared.Got.the-variants.{Sees, Fails}
-use Rattle.work.specs.Work.{Seen, seen, seeing, noCounts, named, namedBy, idOf, sent}
-use Rattle.outcome.specs.declared.Ending.{Ending}
-use Rattle.outcome.specs.declared.Ending.the-variants.{Normal, Satisfied, Exception}
-use Rattle.outcome.specs.Outcome.{standing, sought, ordered, after}
-use Rattle.plan.specs.Plan.{homePlace, mostTally}
-use Rattle.licence.specs.Licence.{equalId, equalIdOrKey, homeDone, recordWritten}
-use Rattle.search.specs.Search.{flagBytes, found, equalOnly}
 use Rattle.laying.specs.Laying.{recorded, newCounts, newRecord}
+use Rattle.table.specs.declared.How.{How}
+use Rattle.table.specs.declared.How.the-variants.{IfEqual, IfHigh, IfEqualOrHigh}
 use Rattle.table.specs.declared.Licence.{Licence}
 use Rattle.table.specs.declared.Licence.the-variants as Licence
 use Rattle.table.specs.declared.Bar.{Bar}
@@ -67,10 +64,14 @@ use Rattle.table.specs.declared.Act.{Act}
 use Rattle.table.specs.declared.Act.the-variants as Act
 use Rattle.table.specs.declared.Rule.{Rule}
 use Rattle.table.specs.Table.{ruleOf, looks, servesData, servesKey, isHome}
-use Rattle.turn.specs.Turn.{Tracks, Lies, Piece, Moves, None, Gives, Takes, Turn, turn, checks}
+use Rattle.turn.specs.declared.Ending.{Ending}
+use Rattle.turn.specs.declared.Ending.the-variants.{Normal, Satisfied, Exception}
+use Rattle.turn.specs.Turn.{Tracks, Lies, Piece, Moves, None, Gives, Takes, Turn, turn, standing, sought, ordered, after, checks}
 use Rattle.command.specs.declared.Task.{Task}
 use Rattle.command.specs.declared.Plan.{Plan}
 use Rattle.command.specs.declared.Plan.the-variants.{Refuses, Works}
+use Rattle.command.specs.declared.Got.{Got}
+use Rattle.command.specs.declared.Got.the-variants.{Sees, Fails}
 use Rattle.command.specs.declared.Job.{Job}
 use Rattle.command.specs.declared.Ready.{Ready}
 use Rattle.command.specs.declared.Ready.the-variants as Ready
@@ -83,7 +84,22 @@ Marks = Head → List Bool
 unfoldable pub marksOf : Tracks → Marks
 marksOf t h = marks (t h)
 
--- which command before
+-- which command before, and whether its search was equal over the whole field (DECISIONS 15a, 28): 31 equal so
+unfoldable pub equalId : ℕ → Bool → Bool
+equalId before whole = both whole (eqb before 0x31)
+
+-- 31 or 29, equal so
+unfoldable pub equalIdOrKey : ℕ → Bool → Bool
+equalIdOrKey before whole = both whole (either (eqb before 0x31) (eqb before 0x29))
+
+-- Write HA, or Search HA equal so
+unfoldable pub homeDone : ℕ → Bool → Bool
+homeDone before whole = either (eqb before 0x19) (both whole (eqb before 0x39))
+
+-- Write R0 or Write Count Key Data
+unfoldable pub recordWritten : ℕ → Bool
+recordWritten before = either (eqb before 0x15) (eqb before 0x1D)
+
 unfoldable pub licensed : Licence → Orders → Bool
 licensed Licence.Any o = true
 licensed Licence.Look o = looks (ruleOf (o .before) .act)
@@ -94,6 +110,18 @@ licensed Licence.EqualId o = equalId (o .before) (o .whole)
 
 abbrev pub task : Head → ℕ → Selection → ℕ → Task
 task h p x n = record { head = h; place = p; selection = x; tally = n }
+
+-- after home address work the place is 1; Search ID and Key may pass one index point in a row
+abbrev pub homePlace : ℕ
+homePlace = 1
+
+abbrev pub mostTally : ℕ
+mostTally = 1
+
+-- the selected record is one of the track
+unfoldable pub SelectedOn : List Bool → Selection → Type 0
+SelectedOn m Nothing = Unit {0}
+SelectedOn m (On spot) = spotFits m spot ≡ true
 
 -- Search ID and Key count the index points that they pass in a row; any other command sets the tally to 0
 unfoldable pub tallies : Act → Bool
@@ -147,6 +175,18 @@ plans r m s o = pick (licensed (r .licence) o) (unlessBarred (r .bar) (o .mask) 
 
 -- ==== which areas it reads: of the home address, or of the record whose count area is at c
 
+unfoldable pub areaIf : Bool → Area → List Area
+areaIf b a = pick b (a ∷ []) []
+
+-- key and data, if they are named and there
+unfoldable pub named : ℕ → Bool → Bool → Counts → List Area
+named c key body n = areaIf (both key (ltb 0 (n .kl))) (keyArea c n) ++ areaIf (both body (ltb 0 (n .dl))) (dataArea c n)
+
+-- by what the count area says; one that is not readable names nothing
+unfoldable pub namedBy : ℕ → Bool → Bool → CountRead → List Area
+namedBy c key body (CountRead.Reads n) = named c key body n
+namedBy c key body CountRead.Fails = []
+
 unfoldable pub liesOn : Head → List Area → List Lies
 liesOn h l = map (λ (a : Area). record { head = h; area = a }) l
 
@@ -160,7 +200,10 @@ unfoldable pub allRead : Tracks → List Lies → Got → Got
 allRead t [] x = x
 allRead t (a ∷ l) x = pick (readable (t (a .head)) (a .area)) (allRead t l x) (Fails (rowOf (a .area .part)))
 
--- what the count area says
+-- what the count area says; the home address has none
+abbrev pub noCounts : Counts
+noCounts = record { flag = 0; cc = 0; hh = 0; r = 0; kl = 0; dl = 0 }
+
 unfoldable pub countsIn : Names → Tracks → Head → ℕ → Counts
 countsIn Names.Nothing t h c = noCounts
 countsIn Names.HomeAddress t h c = noCounts
@@ -169,7 +212,21 @@ countsIn (Names.Count key body) t h c = countsAt (t h) c
 unfoldable pub gets : Names → Tracks → Head → ℕ → Got
 gets n t h c = allRead t (areasOf n t h c) (Sees (countsIn n t h c))
 
--- the bytes of areas
+-- the bytes of areas, part by part; a count area's are its counts
+pub record Seen : Type 0 where
+  pub home : List ℕ
+  pub key : List ℕ
+  pub body : List ℕ
+
+abbrev pub seen : List ℕ → List ℕ → List ℕ → Seen
+seen h k b = record { home = h; key = k; body = b }
+
+unfoldable pub seeing : Part → List ℕ → Seen → Seen
+seeing Part.Home v x = seen v (x .key) (x .body)
+seeing Part.Count v x = x
+seeing Part.Key v x = seen (x .home) v (x .body)
+seeing Part.Data v x = seen (x .home) (x .key) v
+
 unfoldable pub saw : Tracks → List Lies → Seen
 saw t [] = seen [] [] []
 saw t (a ∷ l) = seeing (a .area .part) (areaBytes (t (a .head)) (a .area)) (saw t l)
@@ -304,6 +361,16 @@ spaces x = endsAt x (task (x .job .task .head) (spacedPlace x) Nothing 0) Normal
 
 -- ---- searches: the first m bytes, m the smaller of the bytes sent and the field, as unsigned numbers
 
+-- an ID, CCHHR
+unfoldable pub idOf : ℕ → ℕ → ℕ → List ℕ
+idOf cc hh r = cc / 256 ∷ cc % 256 ∷ hh / 256 ∷ hh % 256 ∷ r ∷ []
+
+abbrev pub flagBytes : ℕ
+flagBytes = 1
+
+abbrev pub idBytes : ℕ
+idBytes = 5
+
 -- the field: of the home address its last 4 bytes, the key if it is named, or else the ID, CCHHR
 unfoldable pub fieldOf : Names → Counts → Seen → List ℕ
 fieldOf Names.Nothing n x = []
@@ -312,6 +379,27 @@ fieldOf (Names.Count key body) n x = pick key (x .key) (idOf (n .cc) (n .hh) (n 
 
 unfoldable pub comparison : List ℕ → List ℕ → Compared
 comparison f v = compared (number (take (length v) f)) (number (take (length f) v))
+
+-- high means the track's is higher
+unfoldable pub satisfies : How → Compared → Bool
+satisfies IfEqual Low = false
+satisfies IfEqual Equal = true
+satisfies IfEqual High = false
+satisfies IfHigh Low = false
+satisfies IfHigh Equal = false
+satisfies IfHigh High = true
+satisfies IfEqualOrHigh Low = false
+satisfies IfEqualOrHigh Equal = true
+satisfies IfEqualOrHigh High = true
+
+-- a field of no bytes (KL = 0) satisfies nothing
+unfoldable pub found : How → Compared → ℕ → Bool
+found h x n = both (ltb 0 n) (satisfies h x)
+
+unfoldable pub equalOnly : How → Bool
+equalOnly IfEqual = true
+equalOnly IfHigh = false
+equalOnly IfEqualOrHigh = false
 
 unfoldable pub satisfied : How → List ℕ → List ℕ → Bool
 satisfied h f v = found h (comparison f v) (length f)
@@ -328,6 +416,10 @@ unfoldable pub compares : How → Sight → Turn
 compares h x = comparesWith h x (fieldOf (x .job .rule .names) (x .job .counts) (x .seen))
 
 -- ---- reads: the home address's 5 bytes; of a record the count's 8, key and data where they are named and there
+
+-- counts move as the 8 bytes CCHHR, KL, DL
+unfoldable pub sent : Counts → List ℕ
+sent n = idOf (n .cc) (n .hh) (n .r) ++ (n .kl ∷ n .dl / 256 ∷ n .dl % 256 ∷ [])
 
 unfoldable pub offered : Names → Bool → Counts → Seen → List ℕ
 offered Names.Nothing counted n x = []

@@ -22,6 +22,12 @@ pub enum Plan {
     Works(Task),
 }
 
+// What reading gives: what the count area says, all areas being readable, or the row of the first that is not.
+pub enum Got {
+    Sees(Counts),
+    Fails(Row),
+}
+
 // A command that has read all that it names: its code and row, where the head stood, what it found, where it works, what the count area says there.
 pub struct Job {
     pub code: u8,

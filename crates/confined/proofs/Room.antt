@@ -21,10 +21,10 @@ use Rattle.held.specs.declared.Selection.{Selection}
 use Rattle.held.specs.declared.Selection.the-variants.{Nothing, On}
 use Rattle.held.specs.declared.Stands.{Stands}
 use Rattle.held.specs.declared.Orders.{Orders}
-use Rattle.work.specs.declared.Got.{Got}
-use Rattle.work.specs.declared.Got.the-variants.{Sees}
-use Rattle.plan.specs.Plan.{mostTally}
-use Rattle.outcome.specs.Outcome.{sensing, standing}
+use Rattle.command.specs.declared.Got.{Got}
+use Rattle.command.specs.declared.Got.the-variants.{Sees}
+use Rattle.command.specs.Command.{mostTally}
+use Rattle.turn.specs.Turn.{sensing, standing}
 use Rattle.laying.specs.Laying.{newCounts}
 use Rattle.table.specs.declared.Write.{Write}
 use Rattle.table.specs.declared.Write.the-variants as Write

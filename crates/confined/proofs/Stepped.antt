@@ -20,7 +20,7 @@ use Rattle.words.proofs.Obeys.{TestedIn, tested-in}
 use Rattle.pack.specs.declared.Shape.{Shape}
 use Rattle.pack.specs.Tracks.{trackAt, withTrack}
 use Rattle.pack.proofs.Laws.{others-kept}
-use Rattle.outcome.specs.declared.Ending.the-variants.{Check}
+use Rattle.turn.specs.declared.Ending.the-variants.{Check}
 use Rattle.table.specs.Table.{ruleOf}
 use Rattle.turn.specs.Turn.{Turn, given, toldOf, laid}
 use Rattle.channel.specs.Channel.{fetched, placed, moved, goesOn, statusAfter, withStatus, storageAfter}

@@ -21,7 +21,7 @@ use Rattle.areas.specs.Flags.{flagAfter}
 use Rattle.room.specs.Room.{fits}
 use Rattle.room.proofs.Laws.{fits-ends}
 use Rattle.pack.specs.declared.Head.{Head}
-use Rattle.work.specs.Work.{named}
+use Rattle.command.specs.Command.{named}
 use Rattle.laying.proofs.Laws.{length-area, length-new}
 use Rattle.table.specs.declared.Write.{Write}
 use Rattle.table.specs.declared.Write.the-variants as Write

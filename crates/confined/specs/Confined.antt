@@ -37,8 +37,8 @@ use Rattle.held.specs.declared.Selection.{Selection}
 use Rattle.held.specs.declared.Selection.the-variants.{Nothing, On}
 use Rattle.held.specs.declared.Stands.{Stands}
 use Rattle.held.specs.declared.Orders.{Orders}
-use Rattle.work.specs.declared.Got.the-variants.{Sees}
-use Rattle.outcome.specs.declared.Ending.the-variants.{Check}
+use Rattle.command.specs.declared.Got.the-variants.{Sees}
+use Rattle.turn.specs.declared.Ending.the-variants.{Check}
 use Rattle.laying.specs.Laying.{newCounts}
 use Rattle.table.specs.declared.Bar.{Bar}
 use Rattle.table.specs.declared.Bar.the-variants as Bar

@@ -16,7 +16,7 @@ use Rattle.mask.specs.Mask.{legal}
 use Rattle.hunt.specs.Hunt.{spaceRecord}
 use Rattle.held.specs.declared.Selection.the-variants.{Nothing}
 use Rattle.held.specs.declared.Stands.{Stands}
-use Rattle.outcome.specs.declared.Ending.the-variants.{Normal}
+use Rattle.turn.specs.declared.Ending.the-variants.{Normal}
 use Rattle.table.specs.declared.Rule.{Rule}
 use Rattle.table.specs.Table.{ruleOf, isHome}
 use Rattle.turn.specs.declared.Told.{Told}

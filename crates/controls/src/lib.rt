@@ -5,13 +5,14 @@ use held::Orders;
 use held::Selection;
 use held::Stands;
 use mask::Seeking;
-use outcome::Ending;
 use pack::Cylinder;
 use pack::Head;
 use pack::Shape;
 use pack::Sought;
 use rows::Row;
+use rows::Sense;
 use table::Control;
+use turn::Ending;
 use turn::Moving;
 use turn::Told;
 ghost use mathlib.Core.Path.{_≡_};
@@ -77,12 +78,16 @@ fn arrives(j: Job, x: Sought) -> Told
     match x {
         Sought::Stands(c, h) => {
             let task = j.task;
-            let stands = outcome::arrived(c, h);
             let orders = ending::orders_after(j, task, false);
             Told {
                 ending: Ending::Normal,
                 moving: Moving::Takes(SEEK),
-                stands,
+                stands: Stands {
+                    cylinder: c,
+                    head: h,
+                    place: 0,
+                    sense: Sense { byte0: 0, byte1: 0 },
+                },
                 orders,
             }
         }

@@ -22,7 +22,7 @@ use Rattle.held.specs.declared.Selection.{Selection}
 use Rattle.held.specs.declared.Selection.the-variants.{Nothing, On}
 use Rattle.held.specs.declared.Stands.{Stands}
 use Rattle.held.specs.declared.Orders.{Orders}
-use Rattle.plan.specs.Plan.{homePlace, mostTally, SelectedOn}
+use Rattle.command.specs.Command.{homePlace, mostTally, SelectedOn}
 use Rattle.table.specs.declared.Bar.{Bar}
 use Rattle.table.specs.declared.Bar.the-variants as Bar
 use Rattle.table.specs.declared.Aim.{Aim}

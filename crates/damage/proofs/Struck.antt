@@ -22,8 +22,8 @@ use Rattle.pack.specs.declared.Head.{Head}
 use Rattle.pack.specs.declared.Shape.{Shape}
 use Rattle.held.specs.declared.Stands.{Stands}
 use Rattle.held.specs.declared.Orders.{Orders}
-use Rattle.work.specs.Work.{areaIf, named, namedBy}
-use Rattle.plan.specs.Plan.{SelectedOn}
+use Rattle.command.specs.Command.{areaIf, named, namedBy}
+use Rattle.command.specs.Command.{SelectedOn}
 use Rattle.table.specs.declared.Names.{Names}
 use Rattle.table.specs.declared.Names.the-variants as Names
 use Rattle.table.specs.declared.Rule.{Rule}

@@ -5,7 +5,7 @@ use mathlib.Core.List.{List}
 use Rattle.rows.specs.declared.Row.{Row}
 use Rattle.held.specs.declared.Stands.{Stands}
 use Rattle.held.specs.declared.Orders.{Orders}
-use Rattle.outcome.specs.declared.Ending.{Ending}
+use Rattle.turn.specs.declared.Ending.{Ending}
 use Rattle.turn.specs.Turn.{Lies, Piece, Moves, movingOf, toldOf, checks}
 use Rattle.command.specs.declared.Task.{Task}
 use Rattle.command.specs.Command.{Sight, fails, endsAt, ends}

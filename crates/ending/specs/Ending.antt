@@ -4,9 +4,9 @@ use Rattle.rows.specs.declared.Row.{Row}
 use Rattle.rows.specs.Rows.{senseOf}
 use Rattle.held.specs.declared.Stands.{Stands}
 use Rattle.held.specs.declared.Orders.{Orders}
-use Rattle.outcome.specs.declared.Ending.{Ending}
-use Rattle.outcome.specs.declared.Ending.the-variants.{Check}
-use Rattle.outcome.specs.Outcome.{sensing}
+use Rattle.turn.specs.declared.Ending.{Ending}
+use Rattle.turn.specs.declared.Ending.the-variants.{Check}
+use Rattle.turn.specs.Turn.{sensing}
 use Rattle.turn.specs.declared.Moving.{Moving}
 use Rattle.turn.specs.declared.Moving.the-variants as Moving
 use Rattle.turn.specs.declared.Told.{Told}

@@ -3,9 +3,9 @@ use command::Job;
 use command::Task;
 use held::Orders;
 use held::Stands;
-use outcome::Ending;
 use rows::Row;
 use rows::Sense;
+use turn::Ending;
 use turn::Moving;
 use turn::Told;
 ghost use mathlib.Core.Path.{_≡_};
@@ -45,7 +45,14 @@ pub fn orders_after(j: Job, k: Task, whole: bool) -> Orders
 {
     let orders = j.orders;
     let selection = k.selection;
-    outcome::ordered_after(orders, j.code, whole, k.tally, selection)
+    Orders {
+        mask: orders.mask,
+        mask_set: orders.mask_set,
+        before: j.code,
+        whole,
+        tally: k.tally,
+        selection,
+    }
 }
 
 // A job ends at the place of a task.
@@ -87,11 +94,17 @@ pub fn failed(s: Stands, o: Orders, row: Row) -> Told
     ensures { λ r. ⌜ r ≡ failedAt s o row ⌝ }
 {
     let sense = rows::sense_of(row);
-    let stands = outcome::sensed(s, sense);
+    let cylinder = s.cylinder;
+    let head = s.head;
     Told {
         ending: Ending::Check(row),
         moving: Moving::Takes(row_takes(row)),
-        stands,
+        stands: Stands {
+            cylinder,
+            head,
+            place: s.place,
+            sense,
+        },
         orders: o,
     }
 }

@@ -22,8 +22,8 @@ use Rattle.held.specs.declared.Selection.{Selection}
 use Rattle.held.specs.declared.Selection.the-variants.{Nothing, On}
 use Rattle.held.specs.declared.Stands.{Stands}
 use Rattle.held.specs.declared.Orders.{Orders}
-use Rattle.work.specs.Work.{namedBy}
-use Rattle.plan.specs.Plan.{mostTally}
+use Rattle.command.specs.Command.{namedBy}
+use Rattle.command.specs.Command.{mostTally}
 use Rattle.table.specs.declared.Bar.{Bar}
 use Rattle.table.specs.declared.Bar.the-variants as Bar
 use Rattle.table.specs.declared.Aim.{Aim}

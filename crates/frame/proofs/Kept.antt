@@ -17,9 +17,9 @@ use Rattle.pack.specs.declared.Head.{Head}
 use Rattle.pack.specs.declared.Shape.{Shape}
 use Rattle.held.specs.declared.Stands.{Stands}
 use Rattle.held.specs.declared.Orders.{Orders}
-use Rattle.work.specs.declared.Got.{Got}
-use Rattle.work.specs.declared.Got.the-variants.{Sees, Fails}
-use Rattle.work.specs.Work.{namedBy, seeing}
+use Rattle.command.specs.declared.Got.{Got}
+use Rattle.command.specs.declared.Got.the-variants.{Sees, Fails}
+use Rattle.command.specs.Command.{namedBy, seeing}
 use Rattle.laying.specs.Laying.{recorded}
 use Rattle.table.specs.declared.Names.{Names}
 use Rattle.table.specs.declared.Names.the-variants as Names

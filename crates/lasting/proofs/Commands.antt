@@ -32,13 +32,13 @@ use Rattle.held.specs.declared.Selection.{Selection}
 use Rattle.held.specs.declared.Selection.the-variants.{Nothing, On}
 use Rattle.held.specs.declared.Stands.{Stands}
 use Rattle.held.specs.declared.Orders.{Orders}
-use Rattle.outcome.specs.declared.Ending.the-variants.{Normal, Exception, Check}
-use Rattle.outcome.specs.Outcome.{standing, after, ordered}
-use Rattle.work.specs.declared.Got.{Got}
-use Rattle.work.specs.declared.Got.the-variants.{Sees, Fails}
-use Rattle.work.specs.Work.{seeing, noCounts, named}
-use Rattle.plan.specs.Plan.{homePlace, SelectedOn}
-use Rattle.licence.specs.Licence.{homeDone}
+use Rattle.turn.specs.declared.Ending.the-variants.{Normal, Exception, Check}
+use Rattle.turn.specs.Turn.{standing, after, ordered}
+use Rattle.command.specs.declared.Got.{Got}
+use Rattle.command.specs.declared.Got.the-variants.{Sees, Fails}
+use Rattle.command.specs.Command.{seeing, noCounts, named}
+use Rattle.command.specs.Command.{homePlace, SelectedOn}
+use Rattle.command.specs.Command.{homeDone}
 use Rattle.laying.specs.Laying.{newCounts, newRecord, formatted}
 use Rattle.laying.proofs.Laws.{length-area, length-new}
 use Rattle.table.specs.declared.Licence.the-variants as Licence

@@ -19,8 +19,8 @@ use Rattle.areas.specs.Areas.{countsAt, keyArea, dataArea, areaCells}
 use Rattle.areas.proofs.Laws.{some-key}
 use Rattle.hunt.specs.declared.Spot.{Spot}
 use Rattle.hunt.specs.Hunt.{countFirst}
-use Rattle.work.specs.Work.{named}
-use Rattle.work.proofs.Seen.{lies}
+use Rattle.command.specs.Command.{named}
+use Rattle.command.proofs.Seen.{lies}
 use Rattle.turn.specs.Turn.{Piece, laid}
 use Rattle.command.specs.Command.{Sight, piece, over, keySent, allRecorded}
 use Rattle.command.proofs.Pieces.{Over, over-in}

@@ -22,9 +22,9 @@ use Rattle.held.specs.declared.Selection.{Selection}
 use Rattle.held.specs.declared.Selection.the-variants.{Nothing, On}
 use Rattle.held.specs.declared.Stands.{Stands}
 use Rattle.held.specs.declared.Orders.{Orders}
-use Rattle.work.specs.declared.Got.{Got}
-use Rattle.work.specs.declared.Got.the-variants.{Sees, Fails}
-use Rattle.work.specs.Work.{seeing}
+use Rattle.command.specs.declared.Got.{Got}
+use Rattle.command.specs.declared.Got.the-variants.{Sees, Fails}
+use Rattle.command.specs.Command.{seeing}
 use Rattle.table.specs.declared.Bar.{Bar}
 use Rattle.table.specs.declared.Bar.the-variants as Bar
 use Rattle.table.specs.declared.Aim.{Aim}

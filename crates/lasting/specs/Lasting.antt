@@ -19,7 +19,7 @@ use Rattle.recording.specs.Recording.{countSent}
 use Rattle.held.specs.declared.Selection.{Selection}
 use Rattle.held.specs.declared.Selection.the-variants.{On}
 use Rattle.held.specs.declared.Orders.{Orders}
-use Rattle.outcome.specs.declared.Ending.the-variants.{Check}
+use Rattle.turn.specs.declared.Ending.the-variants.{Check}
 use Rattle.laying.specs.Laying.{newCounts}
 use Rattle.table.specs.declared.Write.{Write}
 use Rattle.table.specs.declared.Write.the-variants as Write

@@ -25,13 +25,13 @@ use Rattle.pack.specs.Tracks.{startOf, trackAt}
 use Rattle.compare.specs.Compare.{compared}
 use Rattle.commands.specs.Commands.{readOf, writeOf, searchOf, commandOf, selects}
 use Rattle.held.specs.Held.{freshStands, freshOrders, freshChannel, fresh, rested}
-use Rattle.outcome.specs.Outcome.{checked}
-use Rattle.work.specs.Work.{workReads, allRead, gets, seeing, saw}
-use Rattle.plan.specs.Plan.{searchWork, readWork, homeJob, searchPlan, readPlan}
-use Rattle.search.specs.Search.{fieldOf, howOf, comparison, satisfies, found, searched, searchGot, searchBy, searches}
+use Rattle.turn.specs.Turn.{checked}
+use Rattle.command.specs.Command.{workReads, allRead, gets, seeing, saw}
+use Rattle.command.specs.Command.{searchWork, readWork, homeJob, searchPlan, readPlan}
+use Rattle.command.specs.Command.{fieldOf, howOf, comparison, satisfies, found, searched, searchGot, searchBy, searches}
 use Rattle.read.specs.Read.{isEmpty, moved, readGot, readBy, reads}
 use Rattle.control.specs.Control.{noOp, controls}
-use Rattle.settle.specs.Settle.{unitStatus, endsWell, stride, wrongLength, goesOn, onward, heldAfter, statusAfter, storageAfter}
+use Rattle.channel.specs.Channel.{unitStatus, endsWell, stride, wrongLength, goesOn, onward, heldAfter, statusAfter, storageAfter}
 use Rattle.chain.specs.Act.{obeys, acts}
 use Rattle.chain.specs.Step.{World, world, under, settled, obeyed, takes, step, run}
 use Rattle.chain.specs.Legal.{selectionFits}

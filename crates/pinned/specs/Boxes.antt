@@ -21,8 +21,8 @@ use Rattle.commands.specs.Commands.{commandOf}
 use Rattle.held.specs.declared.Channel.{Channel}
 use Rattle.held.specs.Held.{rested}
 use Rattle.outcome.specs.declared.Done.{Done}
-use Rattle.outcome.specs.Outcome.{checked}
-use Rattle.settle.specs.Settle.{unitStatus, lengthStatus, goesOn}
+use Rattle.turn.specs.Turn.{checked}
+use Rattle.channel.specs.Channel.{unitStatus, lengthStatus, goesOn}
 use Rattle.chain.specs.Act.{Acted, acted, acts}
 use Rattle.chain.specs.Step.{World, world, under, settled, obeyed, takes, step, run}
 use Rattle.host.specs.declared.Answer.{Answer}

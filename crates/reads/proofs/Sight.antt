@@ -14,55 +14,22 @@ use Rattle.areas.specs.declared.Counts.{Counts}
 use Rattle.areas.specs.Areas.{readable, areaBytes, rowOf, countsAt}
 use Rattle.areas.proofs.Laws.{counts-are}
 use Rattle.pack.specs.declared.Head.{Head}
-use Rattle.work.specs.declared.Work.the-variants.{Home, Record}
-use Rattle.work.specs.declared.Got.{Got}
-use Rattle.work.specs.declared.Got.the-variants.{Sees, Fails}
-use Rattle.work.specs.Work as Work
-use Rattle.work.specs.Work.{Seen, idOf, sent, sawBy, workReads, countsIn}
-use Rattle.work.proofs.Seen.{count-lies, record-counts, record-key, record-body, key-lies, body-lies, home-seen, home-lies}
+use Rattle.command.specs.declared.Got.{Got}
+use Rattle.command.specs.declared.Got.the-variants.{Sees, Fails}
+use Rattle.command.specs.Command.{Seen, idOf, sent, gets, saw}
+use Rattle.command.proofs.Seen.{count-lies, record-counts, record-key, record-body, key-lies, body-lies, home-seen, home-lies}
 use Rattle.table.specs.declared.Names.{Names}
 use Rattle.table.specs.declared.Names.the-variants as Names
-use Rattle.outcome.specs.declared.Ending.{Ending}
+use Rattle.turn.specs.declared.Ending.{Ending}
 use Rattle.turn.specs.declared.Moving.the-variants as Moving
 use Rattle.turn.specs.declared.Told.{Told}
 use Rattle.turn.specs.Turn.{Tracks, given, movingOf, filled, toldOf}
 use Rattle.command.specs.declared.Job.{Job}
-use Rattle.command.specs.Command as Command
-use Rattle.command.specs.Command.{liesOn, areasOf, areasRead, sight, Sighted, endsAt, ends, endingOf, offered, gives}
+use Rattle.command.specs.Command.{areasOf, areasRead, sight, Sighted, endsAt, ends, endingOf, offered, gives}
 use Rattle.ending.specs.Ending.{endedAt}
 use Rattle.reads.specs.declared.Rest.{Rest}
 use Rattle.reads.specs.Inside.{LieIf, LieAll, Puts, start, countGiven, keyGiven, bodyGiven, bytesGiven, manyGiven}
 use Rattle.reads.proofs.Laws.{long, all-put, none-put}
-
--- ---- areas of one head's track
-
-all-one : (t : Tracks) (h : Head) (l : List Area) (x : Got) → Command.allRead t (liesOn h l) x ≡ Work.allRead (t h) l x
-unfolding liesOn Command.allRead Work.allRead
-all-one t h [] x = refl
-all-one t h (a ∷ l) x = ap (λ (y : Got). pick (readable (t h) a) y (Fails (rowOf (a .part)))) (all-one t h l x)
-
-saw-one : (t : Tracks) (h : Head) (l : List Area) → Command.saw t (liesOn h l) ≡ Work.saw (t h) l
-unfolding liesOn Command.saw Work.saw
-saw-one t h [] = refl
-saw-one t h (a ∷ l) = ap (Work.seeing (a .part) (areaBytes (t h) a)) (saw-one t h l)
-
-module _ (t : Tracks) (h : Head) (c : ℕ) where
-  home-got : Command.gets Names.HomeAddress t h c ≡ Work.gets (t h) Home
-  unfolding Command.gets areasOf Command.countsIn Work.gets workReads countsIn
-  home-got = all-one t h _ _
-
-  home-saw : Command.saw t (areasOf Names.HomeAddress t h c) ≡ sawBy (t h) Home
-  unfolding areasOf workReads
-  home-saw = saw-one t h _
-
-  module _ (key body : Bool) where
-    record-got : Command.gets (Names.Count key body) t h c ≡ Work.gets (t h) (Record c key body)
-    unfolding Command.gets areasOf Command.countsIn Work.gets workReads countsIn
-    record-got = all-one t h _ _
-
-    record-saw : Command.saw t (areasOf (Names.Count key body) t h c) ≡ sawBy (t h) (Record c key body)
-    unfolding areasOf workReads
-    record-saw = saw-one t h _
 
 -- ---- a count's 8 bytes are those of its cells but the flag's
 
@@ -112,7 +79,13 @@ module _ (t : List ℕ) (c : ℕ) (h : c + 11 ≤ length t) where
 
 -- ---- a record's bytes
 
-module _ (t : List ℕ) (c : ℕ) (counted key body : Bool) (n : Counts) (e : Work.gets t (Record c key body) ≡ Sees n) where
+module _ (tr : Tracks) (h : Head) (c : ℕ) (counted key body : Bool) (n : Counts) (e : gets (Names.Count key body) tr h c ≡ Sees n) where
+  abbrev t : List ℕ
+  t = tr h
+
+  abbrev x : Seen
+  x = saw tr (areasOf (Names.Count key body) tr h c)
+
   -- a part that is not named has no bytes
   picked : (b : Bool) (first m : ℕ) → pick b (bytesOf (part t first m)) [] ≡ bytesOf (part t first (pick b m 0))
   unfolding bytesOf part
@@ -125,25 +98,25 @@ module _ (t : List ℕ) (c : ℕ) (counted key body : Bool) (n : Counts) (e : Wo
 
   count-is : pick counted (sent n) [] ≡ countGiven t counted c
   count-is =
-      ap (λ (x : List ℕ). pick counted x [])
-      (ap sent (record-counts t c key body n e) ∙ sent-at t c (count-lies t c key body n e))
+      ap (λ (y : List ℕ). pick counted y [])
+      (ap sent (record-counts tr h c key body n e) ∙ sent-at t c (count-lies tr h c key body n e))
       ∙ picked counted (c + 1) 8
 
   twice : (b : Bool) (v : List ℕ) → pick b (pick b v []) [] ≡ pick b v []
   twice true v = refl
   twice false v = refl
 
-  key-is : pick key (sawBy t (Record c key body) .key) [] ≡ keyGiven t key c n
-  key-is = ap (λ (x : List ℕ). pick key x []) (record-key t c key body n e) ∙ twice key _ ∙ picked key _ (n .kl)
+  key-is : pick key (x .key) [] ≡ keyGiven t key c n
+  key-is = ap (λ (y : List ℕ). pick key y []) (record-key tr h c key body n e) ∙ twice key _ ∙ picked key _ (n .kl)
 
-  body-is : pick body (sawBy t (Record c key body) .body) [] ≡ bodyGiven t body c n
-  body-is = ap (λ (x : List ℕ). pick body x []) (record-body t c key body n e) ∙ twice body _ ∙ picked body _ (n .dl)
+  body-is : pick body (x .body) [] ≡ bodyGiven t body c n
+  body-is = ap (λ (y : List ℕ). pick body y []) (record-body tr h c key body n e) ∙ twice body _ ∙ picked body _ (n .dl)
 
   record-lies : LieAll t counted key body c n
   record-lies = record {
-    count = lie-if counted (c + 1) 8 (λ _ _. omega (arith, count-lies t c key body n e));
-    key = lie-if key _ (n .kl) (key-lies t c key body n e);
-    body = lie-if body _ (n .dl) (body-lies t c key body n e);
+    count = lie-if counted (c + 1) 8 (λ _ _. omega (arith, count-lies tr h c key body n e));
+    key = lie-if key _ (n .kl) (key-lies tr h c key body n e);
+    body = lie-if body _ (n .dl) (body-lies tr h c key body n e);
   }
 
 -- ---- by what a job names
@@ -152,36 +125,31 @@ module _ (t : Tracks) (j : Job) (s : Sighted t j) where
   abbrev on : List ℕ
   on = t (j .task .head)
 
-  sees-by : (m : Names) → j .rule .names ≡ m → Command.gets m t (j .task .head) (j .task .place) ≡ Sees (j .counts)
-  sees-by m p = ap (λ (x : Names). Command.gets x t (j .task .head) (j .task .place)) (sym p) ∙ s .sees
+  sees-by : (m : Names) → j .rule .names ≡ m → gets m t (j .task .head) (j .task .place) ≡ Sees (j .counts)
+  sees-by m p = ap (λ (x : Names). gets x t (j .task .head) (j .task .place)) (sym p) ∙ s .sees
 
-  gives-at : (m : Names) → Command.gets m t (j .task .head) (j .task .place) ≡ Sees (j .counts) → (counted : Bool)
-      → offered m counted (j .counts) (Command.saw t (areasOf m t (j .task .head) (j .task .place))) ≡ bytesGiven on counted m (j .task .place) (j .counts)
+  gives-at : (m : Names) → gets m t (j .task .head) (j .task .place) ≡ Sees (j .counts) → (counted : Bool)
+      → offered m counted (j .counts) (saw t (areasOf m t (j .task .head) (j .task .place))) ≡ bytesGiven on counted m (j .task .place) (j .counts)
   unfolding offered bytesGiven
   gives-at Names.Nothing e counted = refl
-  gives-at Names.HomeAddress e counted = ap (λ (x : Seen). x .home) (home-saw t (j .task .head) (j .task .place)) ∙ home-seen on
+  gives-at Names.HomeAddress e counted = home-seen t (j .task .head) (j .task .place)
   gives-at (Names.Count key body) e counted =
       let c = j .task .place in
       let n = j .counts in
-      let g : Work.gets on (Record c key body) ≡ Sees n = sym (record-got t (j .task .head) c key body) ∙ e in
-      ap (λ (x : Seen). pick counted (sent n) [] ++ (pick key (x .key) [] ++ pick body (x .body) [])) (record-saw t (j .task .head) c key body)
-      ∙ (λ i. count-is on c counted key body n g i ++ (key-is on c counted key body n g i ++ body-is on c counted key body n g i))
+      (λ i. count-is t (j .task .head) c counted key body n e i
+      ++ (key-is t (j .task .head) c counted key body n e i ++ body-is t (j .task .head) c counted key body n e i))
 
   pub gives-these : (counted : Bool)
-      → offered (j .rule .names) counted (j .counts) (Command.saw t (areasRead t j)) ≡ bytesGiven on counted (j .rule .names) (j .task .place) (j .counts)
+      → offered (j .rule .names) counted (j .counts) (saw t (areasRead t j)) ≡ bytesGiven on counted (j .rule .names) (j .task .place) (j .counts)
   unfolding areasRead
   gives-these = gives-at (j .rule .names) (s .sees)
 
   -- they lie on the track
   pub home-on : j .rule .names ≡ Names.HomeAddress → LieIf on 0 5
-  home-on p =
-      let g = sym (home-got t (j .task .head) (j .task .place)) ∙ sees-by _ p in
-      record { ends = λ _. omega (arith, home-lies on (j .counts) g) }
+  home-on p = record { ends = λ _. omega (arith, home-lies t (j .task .head) (j .task .place) (j .counts) (sees-by _ p)) }
 
   pub record-on : (counted key body : Bool) → j .rule .names ≡ Names.Count key body → LieAll on counted key body (j .task .place) (j .counts)
-  record-on counted key body p =
-      let g = sym (record-got t (j .task .head) (j .task .place) key body) ∙ sees-by _ p in
-      record-lies on (j .task .place) counted key body (j .counts) g
+  record-on counted key body p = record-lies t (j .task .head) (j .task .place) counted key body (j .counts) (sees-by _ p)
 
   -- these bytes put into lent ones are those that the read gives
   module _ (counted : Bool) (v : List ℕ) where

@@ -1,8 +1,8 @@
 // The reads: how they end, and the bytes that they give.
 use areas::Counts;
 use command::Job;
-use outcome::Ending;
 use table::Names;
+use turn::Ending;
 use turn::Moving;
 use turn::Told;
 ghost use mathlib.Core.Path.{_≡_};

@@ -7,8 +7,8 @@ use borrow.Author.Tests.{le-leb, lt-leb}
 use Rattle.cells.specs.Choice.{both}
 use Rattle.cells.proofs.Tests.{zero-ltb, nonzero-ltb}
 use Rattle.compare.specs.declared.Compared.{Compared}
-use Rattle.commands.specs.declared.How.{How}
-use Rattle.search.specs.Search.{satisfies, found, equalOnly}
+use Rattle.table.specs.declared.How.{How}
+use Rattle.command.specs.Command.{satisfies, found, equalOnly}
 
 module _ (h : How) (x : Compared) (n : ℕ) where
   pub none-found : n ≡ 0 → false ≡ found h x n

@@ -10,10 +10,10 @@ use Rattle.cells.specs.Choice.{pick, both}
 use Rattle.cells.specs.Bytes.{part}
 use Rattle.cells.specs.Cells.{bytesOf}
 use Rattle.compare.specs.declared.Compared.{Compared}
-use Rattle.commands.specs.declared.How.{How}
-use Rattle.outcome.specs.declared.Ending.{Ending}
-use Rattle.outcome.specs.declared.Ending.the-variants.{Normal, Satisfied}
-use Rattle.search.specs.Search.{found, equalOnly}
+use Rattle.table.specs.declared.How.{How}
+use Rattle.turn.specs.declared.Ending.{Ending}
+use Rattle.turn.specs.declared.Ending.the-variants.{Normal, Satisfied}
+use Rattle.command.specs.Command.{found, equalOnly}
 use Rattle.turn.specs.declared.Moving.the-variants as Moving
 use Rattle.turn.specs.declared.Told.{Told}
 use Rattle.turn.specs.Turn.{alone, movingOf, toldOf}

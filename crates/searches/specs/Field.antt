@@ -3,7 +3,7 @@ use Prim.Native.Nat.{ℕ, _+_, _-_}
 use Rattle.cells.specs.Choice.{pick}
 use Rattle.areas.specs.declared.Counts.{Counts}
 use Rattle.areas.specs.Areas.{homeBytes, countCells}
-use Rattle.search.specs.Search.{flagBytes, idBytes}
+use Rattle.command.specs.Command.{flagBytes, idBytes}
 use Rattle.table.specs.declared.Names.{Names}
 use Rattle.table.specs.declared.Names.the-variants as Names
 

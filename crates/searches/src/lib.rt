@@ -1,10 +1,10 @@
 // The searches.
 use areas::Counts;
 use command::Job;
-use commands::How;
 use compare::Compared;
-use outcome::Ending;
+use table::How;
 use table::Names;
+use turn::Ending;
 use turn::Moving;
 use turn::Told;
 ghost use mathlib.Core.Path.{_≡_};
@@ -15,9 +15,9 @@ ghost use Rattle.cells.specs.Choice.{pick, both};
 ghost use Rattle.cells.specs.Bytes.{part};
 ghost use Rattle.cells.specs.Cells.{bytesOf};
 ghost use Rattle.areas.specs.Areas.{countCells};
-ghost use Rattle.commands.specs.declared.How.the-variants.{IfEqual, IfHigh, IfEqualOrHigh};
-ghost use Rattle.outcome.specs.declared.Ending.the-variants.{Normal, Satisfied};
-ghost use Rattle.search.specs.Search.{flagBytes, idBytes, satisfies, found, equalOnly};
+ghost use Rattle.table.specs.declared.How.the-variants.{IfEqual, IfHigh, IfEqualOrHigh};
+ghost use Rattle.turn.specs.declared.Ending.the-variants.{Normal, Satisfied};
+ghost use Rattle.command.specs.Command.{flagBytes, idBytes, satisfies, found, equalOnly};
 ghost use Rattle.turn.specs.Turn.{alone, toldOf};
 ghost use Rattle.command.specs.Command.{Sighted, sight, comparison, compares};
 ghost use Rattle.searches.specs.Field.{fieldFirst, fieldLength};

@@ -1,4 +1,4 @@
--- What is got of some areas is got of the first ones before the rest, and a record's by its count area. Of the cylinder only the track under the head is read.
+-- What is got of some areas is got of the first ones before the rest, and a record's by its count area.
 use Prim.Native.Nat.{ℕ}
 use mathlib.Core.Path.{_≡_, refl, sym, ap, _∙_}
 use mathlib.Core.Bool.{Bool, true, false}
@@ -14,53 +14,13 @@ use Rattle.areas.specs.declared.CountRead.{CountRead}
 use Rattle.areas.specs.declared.CountRead.the-variants as CountRead
 use Rattle.areas.specs.Areas.{homeArea, countArea, keyArea, dataArea, readable, areaBytes, rowOf, countsAt, readCount}
 use Rattle.pack.specs.declared.Head.{Head}
-use Rattle.work.specs.declared.Work.the-variants.{Home, Record}
-use Rattle.work.specs.declared.Got.{Got}
-use Rattle.work.specs.declared.Got.the-variants.{Sees, Fails}
-use Rattle.work.specs.Work.{areaIf, named, namedBy, noCounts, seeing}
-use Rattle.work.specs.Work as Work
+use Rattle.command.specs.declared.Got.{Got}
+use Rattle.command.specs.declared.Got.the-variants.{Sees, Fails}
+use Rattle.command.specs.Command.{areaIf, named, namedBy, noCounts, seeing}
 use Rattle.table.specs.declared.Names.{Names}
 use Rattle.table.specs.declared.Names.the-variants as Names
 use Rattle.turn.specs.Turn.{Tracks, alone}
 use Rattle.command.specs.Command.{liesOn, areasOf, allRead, countsIn, gets, saw}
-
--- ---- a head's track alone
-
-pub read-on : (t : Tracks) (h : Head) (l : List Area) (x : Got) → allRead t (liesOn h l) x ≡ Work.allRead (t h) l x
-unfolding allRead liesOn Work.allRead
-read-on t h [] x = refl
-read-on t h (a ∷ l) x = ap (λ (y : Got). pick (readable (t h) a) y (Fails (rowOf (a .part)))) (read-on t h l x)
-
-pub saw-on : (t : Tracks) (h : Head) (l : List Area) → saw t (liesOn h l) ≡ Work.saw (t h) l
-unfolding saw liesOn Work.saw
-saw-on t h [] = refl
-saw-on t h (a ∷ l) = ap (seeing (a .part) (areaBytes (t h) a)) (saw-on t h l)
-
-pub gets-home : (t : Tracks) (h : Head) (c : ℕ) → gets Names.HomeAddress t h c ≡ Work.gets (t h) Home
-unfolding gets areasOf countsIn Work.gets Work.workReads Work.countsIn
-gets-home t h c = read-on t h (homeArea ∷ []) (Sees noCounts)
-
-pub gets-record : (key body : Bool) (t : Tracks) (h : Head) (c : ℕ) → gets (Names.Count key body) t h c ≡ Work.gets (t h) (Record c key body)
-unfolding gets areasOf countsIn Work.gets Work.workReads Work.countsIn
-gets-record key body t h c = read-on t h (countArea c ∷ namedBy c key body (readCount (t h) c)) (Sees (countsAt (t h) c))
-
-pub gets-on : (n : Names) (t : Tracks) (h : Head) (c : ℕ) → gets n t h c ≡ gets n (alone (t h)) h c
-unfolding gets areasOf allRead countsIn
-gets-on Names.Nothing t h c = refl
-gets-on Names.HomeAddress t h c = gets-home t h c ∙ sym (gets-home (alone (t h)) h c)
-gets-on (Names.Count key body) t h c = gets-record key body t h c ∙ sym (gets-record key body (alone (t h)) h c)
-
-pub areas-on : (n : Names) (t : Tracks) (h : Head) (c : ℕ) → areasOf n t h c ≡ areasOf n (alone (t h)) h c
-unfolding areasOf
-areas-on Names.Nothing t h c = refl
-areas-on Names.HomeAddress t h c = refl
-areas-on (Names.Count key body) t h c = refl
-
-pub saw-alone : (n : Names) (t : Tracks) (h : Head) (c : ℕ) → saw t (areasOf n t h c) ≡ saw (alone (t h)) (areasOf n (alone (t h)) h c)
-unfolding areasOf saw
-saw-alone Names.Nothing t h c = refl
-saw-alone Names.HomeAddress t h c = saw-on t h _ ∙ sym (saw-on (alone (t h)) h _)
-saw-alone (Names.Count key body) t h c = saw-on t h _ ∙ sym (saw-on (alone (t h)) h _)
 
 -- ---- an area before what else is got
 

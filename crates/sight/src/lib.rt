@@ -2,17 +2,17 @@
 use areas::Area;
 use areas::CountRead;
 use areas::Counts;
+use command::Got;
 use rows::Row;
 use table::Names;
-use work::Got;
 ghost use mathlib.Core.Path.{_≡_};
 ghost use mathlib.Core.List.{_∷_, []};
 ghost use lib.Dec.{ltb};
 ghost use Rattle.cells.specs.Choice.{both};
 ghost use Rattle.areas.specs.Areas.{homeArea};
 ghost use Rattle.pack.specs.declared.Head.{Head};
-ghost use Rattle.work.specs.declared.Got.the-variants.{Sees};
-ghost use Rattle.work.specs.Work.{areaIf, named, noCounts};
+ghost use Rattle.command.specs.declared.Got.the-variants.{Sees};
+ghost use Rattle.command.specs.Command.{areaIf, named, noCounts};
 ghost use Rattle.table.specs.declared.Names.the-variants as Names;
 ghost use Rattle.turn.specs.Turn.{alone};
 ghost use Rattle.command.specs.Command.{liesOn, allRead, gets};
@@ -58,11 +58,24 @@ fn read_named(track: &[u16], c: u16, key: bool, body: bool, n: Counts) -> Got
     read_if(track, keyed, areas::key_area(c, n), got)
 }
 
-// The home address.
+// The home address has no count.
+fn no_counts() -> Counts
+    ensures { λ r. ⌜ r ≡ noCounts ⌝ }
+{
+    Counts {
+        flag: 0,
+        cc: 0,
+        hh: 0,
+        r: 0,
+        kl: 0,
+        dl: 0,
+    }
+}
+
 fn read_home(track: &[u16]) -> Got
     ensures { λ r. ⌜ ((h : Head) → r ≡ allRead (alone (now (track .entry))) (liesOn h (homeArea ∷ [])) (Sees noCounts)) ⌝ }
 {
-    let none = work::no_counts();
+    let none = no_counts();
     read_area(track, areas::home_area(), Got::Sees(none))
 }
 
@@ -82,7 +95,7 @@ pub fn get(track: &[u16], n: Names, c: u16) -> Got
 {
     match n {
         Names::Nothing => {
-            let none = work::no_counts();
+            let none = no_counts();
             Got::Sees(none)
         }
         Names::HomeAddress => read_home(track),

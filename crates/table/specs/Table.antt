@@ -10,8 +10,8 @@ use Rattle.mask.specs.declared.Seeking.{Seeking}
 use Rattle.mask.specs.declared.Seeking.the-variants.{Seek, SeekCylinder, SeekHead}
 use Rattle.mask.specs.declared.Writing.{Writing}
 use Rattle.mask.specs.declared.Writing.the-variants as Writing
-use Rattle.commands.specs.declared.How.{How}
-use Rattle.commands.specs.declared.How.the-variants.{IfEqual, IfHigh, IfEqualOrHigh}
+use Rattle.table.specs.declared.How.{How}
+use Rattle.table.specs.declared.How.the-variants.{IfEqual, IfHigh, IfEqualOrHigh}
 use Rattle.table.specs.declared.Licence.{Licence}
 use Rattle.table.specs.declared.Licence.the-variants as Licence
 use Rattle.table.specs.declared.Bar.{Bar}

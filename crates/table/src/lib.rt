@@ -1,5 +1,4 @@
 // The commands, a row each.
-use commands::How;
 use mask::Seeking;
 use mask::Writing;
 ghost use mathlib.Core.Path.{_≡_};
@@ -9,6 +8,13 @@ ghost use Rattle.mask.specs.declared.Writing.the-variants as Writing;
 ghost use Rattle.table.specs.declared.Aim.the-variants as Aim;
 ghost use Rattle.table.specs.declared.Serves.the-variants as Serves;
 ghost use Rattle.table.specs.declared.Write.the-variants as Write;
+
+// What satisfies a search: equal, the track's higher, or either.
+pub enum How {
+    IfEqual,
+    IfHigh,
+    IfEqualOrHigh,
+}
 
 // Which command must come before.
 pub enum Licence {

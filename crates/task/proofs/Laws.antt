@@ -17,7 +17,8 @@ use Rattle.held.specs.declared.Selection.the-variants.{Nothing, On}
 use Rattle.held.specs.declared.Stands.{Stands}
 use Rattle.held.specs.declared.Orders.{Orders}
 use Rattle.pack.specs.declared.Head.{Head}
-use Rattle.plan.specs.Plan.{SelectedOn, selectedOr}
+use Rattle.command.specs.Command.{SelectedOn}
+use Rattle.task.specs.Inside.{selectedPlace}
 use Rattle.table.specs.declared.Aim.{Aim}
 use Rattle.table.specs.declared.Aim.the-variants as Aim
 use Rattle.table.specs.declared.Rule.{Rule}
@@ -30,16 +31,16 @@ pub come-to : (x : Next) (spot : Spot) (n : ℕ) → x ≡ Next.Stands spot n �
 unfolding spacedTo
 come-to x spot n e h = subst (λ (y : Next). spacedTo y ≤ trackCells) e h
 
-pub selected : (x : Selection) (spot : Spot) → x ≡ On spot → spacedTo (selectedOr x Next.NoMarker) ≤ trackCells → countFirst spot ≤ trackCells
-unfolding spacedTo selectedOr
-selected x spot e h = subst (λ (y : Selection). spacedTo (selectedOr y Next.NoMarker) ≤ trackCells) e h
+pub selected : (x : Selection) (spot : Spot) → x ≡ On spot → selectedPlace x ≤ trackCells → countFirst spot ≤ trackCells
+unfolding selectedPlace
+selected x spot e h = subst (λ (y : Selection). selectedPlace y ≤ trackCells) e h
 
 module _ (t : List ℕ) (w : Whole t) where
   pub next-place : (x y : Next) → x ≡ y → NextOn (marks t) y → spacedTo x ≤ trackCells
   next-place x y e h = next-in t w x (subst (NextOn (marks t)) (sym e) h)
 
-  pub selected-place : (x : Selection) → SelectedOn (marks t) x → spacedTo (selectedOr x Next.NoMarker) ≤ trackCells
-  unfolding SelectedOn selectedOr spacedTo
+  pub selected-place : (x : Selection) → SelectedOn (marks t) x → selectedPlace x ≤ trackCells
+  unfolding SelectedOn selectedPlace
   selected-place Nothing h = omega arith
   selected-place (On spot) h = spot-in t w spot h
 

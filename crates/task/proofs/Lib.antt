@@ -1,3 +1,2 @@
 -- Laws of where a command works.
 pub mod Laws
-pub mod Records

@@ -18,11 +18,11 @@ ghost use Prim.Native.Nat.{_≤_};
 ghost use Rattle.cells.specs.Cells.{trackCells, marks};
 ghost use Rattle.cells.specs.Choice.{pick, either};
 ghost use Rattle.rows.specs.declared.Row.the-variants as Row;
-ghost use Rattle.hunt.specs.declared.Next.the-variants.{NoMarker};
 ghost use Rattle.hunt.specs.Hunt.{Whole, countFirst, spacedTo};
 ghost use Rattle.held.specs.declared.Selection.the-variants.{Nothing, On};
-ghost use Rattle.plan.specs.Plan.{SelectedOn, selectedOr};
-ghost use Rattle.licence.specs.Licence.{equalId, equalIdOrKey, homeDone, recordWritten};
+ghost use Rattle.command.specs.Command.{SelectedOn};
+ghost use Rattle.task.specs.Inside.{selectedPlace};
+ghost use Rattle.command.specs.Command.{equalId, equalIdOrKey, homeDone, recordWritten};
 ghost use Rattle.table.specs.Table.{ruleOf, looks, servesData, servesKey};
 ghost use Rattle.table.specs.declared.Aim.the-variants as Aim;
 ghost use Rattle.turn.specs.Turn.{alone};
@@ -183,7 +183,7 @@ fn on_next(r: Rule, o: Orders, h: Head, next: Next) -> Plan
 
 // The record selected, which there must be.
 fn on_selected(r: Rule, o: Orders, h: Head) -> Plan
-    requires { ⌜ spacedTo (selectedOr (o .selection) NoMarker) ≤ trackCells ⌝ }
+    requires { ⌜ selectedPlace (o .selection) ≤ trackCells ⌝ }
     ensures { λ x. ⌜ x ≡ onSelected r o h (o .selection) (Refuses Row.WrongBefore) ⌝ }
 {
     let selection = o.selection;

@@ -7,14 +7,16 @@ use lib.ListN.{length, take, drop}
 use Rattle.cells.specs.Bytes.{overlay}
 use Rattle.rows.specs.declared.Row.{Row}
 use Rattle.rows.specs.declared.Row.the-variants.{UnknownCode, BadMask, SecondMask, WrongBefore, SeekBarred, WriteBarred, BadSeek, Unreadable, UnreadableCount, NoRoom, NoMarker, SecondIndex}
-use Rattle.rows.specs.Rows.{senseOf}
+use Rattle.rows.specs.declared.Sense.{Sense}
+use Rattle.rows.specs.Rows.{sense, senseOf}
 use Rattle.areas.specs.declared.Area.{Area}
+use Rattle.pack.specs.declared.Cylinder.{Cylinder}
 use Rattle.pack.specs.declared.Head.{Head}
 use Rattle.held.specs.declared.Stands.{Stands}
 use Rattle.held.specs.declared.Orders.{Orders}
-use Rattle.outcome.specs.declared.Ending.{Ending}
-use Rattle.outcome.specs.declared.Ending.the-variants.{Normal, Satisfied, Exception, Check}
-use Rattle.outcome.specs.Outcome.{sensing}
+use Rattle.held.specs.declared.Selection.{Selection}
+use Rattle.turn.specs.declared.Ending.{Ending}
+use Rattle.turn.specs.declared.Ending.the-variants.{Normal, Satisfied, Exception, Check}
 use Rattle.turn.specs.declared.Moving.{Moving}
 use Rattle.turn.specs.declared.Moving.the-variants as Moving
 use Rattle.turn.specs.declared.Told.{Told}
@@ -88,6 +90,33 @@ toldOf t = record { ending = t .ending; moving = movingOf (t .moves); stands = t
 unfoldable pub laid : List Piece → List ℕ → List ℕ
 laid [] t = t
 laid (p ∷ l) t = laid l (overlay t (p .first) (p .cells))
+
+-- ---- what is held: where the head stands, and what the next command finds
+
+unfoldable pub standing : Cylinder → Head → ℕ → Sense → Stands
+standing c h p x = record { cylinder = c; head = h; place = p; sense = x }
+
+-- the same place, with this in sense
+unfoldable pub sensing : Stands → Sense → Stands
+sensing s x = standing (s .cylinder) (s .head) (s .place) x
+
+-- a seek sets place 0, and clears sense
+unfoldable pub sought : Cylinder → Head → Stands
+sought c h = standing c h 0 (sense 0 0)
+
+unfoldable pub ordered : ℕ → Bool → ℕ → Bool → ℕ → Selection → Orders
+ordered mask set before whole tally selection = record {
+  mask = mask;
+  «mask_set» = set;
+  before = before;
+  whole = whole;
+  tally = tally;
+  selection = selection;
+}
+
+-- after the command with this code: the mask stands
+unfoldable pub after : Orders → ℕ → Bool → ℕ → Selection → Orders
+after o code whole tally selection = ordered (o .mask) (o .«mask_set») code whole tally selection
 
 -- ---- Unit Check: no cell is laid, the place stands, and sense says the row
 

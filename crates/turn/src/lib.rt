@@ -1,7 +1,15 @@
 // What a command does, without the bytes and cells of it.
 use held::Orders;
 use held::Stands;
-use outcome::Ending;
+use rows::Row;
+
+// How a command ended.
+pub enum Ending {
+    Normal,
+    Satisfied,
+    Exception,
+    Check(Row),
+}
 
 // The bytes that move: none, and length does not count; so many that it gives; so many that it takes of those sent.
 pub enum Moving {

@@ -13,8 +13,8 @@ use Rattle.pack.specs.declared.Head.{Head}
 use Rattle.pack.specs.declared.Shape.{Shape}
 use Rattle.held.specs.declared.Stands.{Stands}
 use Rattle.held.specs.declared.Orders.{Orders}
-use Rattle.work.specs.declared.Got.{Got}
-use Rattle.work.specs.declared.Got.the-variants.{Sees, Fails}
+use Rattle.command.specs.declared.Got.{Got}
+use Rattle.command.specs.declared.Got.the-variants.{Sees, Fails}
 use Rattle.table.specs.declared.Control.{Control}
 use Rattle.table.specs.declared.Control.the-variants as Control
 use Rattle.table.specs.declared.Act.{Act}

@@ -1,4 +1,5 @@
 // The unit: what a command comes to before it acts, what it then tells, gives and lays. It is lent one track, the bytes sent, and room for bytes.
+use command::Got;
 use command::Job;
 use command::Plan;
 use command::Ready;
@@ -10,13 +11,12 @@ use table::Act;
 use table::Control;
 use table::Rule;
 use turn::Told;
-use work::Got;
 ghost use mathlib.Core.Path.{_≡_};
 ghost use mathlib.Core.List.{List};
 ghost use Prim.Native.Nat.{ℕ};
 ghost use Rattle.cells.specs.Cells.{marks};
 ghost use Rattle.hunt.specs.Hunt.{Whole};
-ghost use Rattle.plan.specs.Plan.{SelectedOn};
+ghost use Rattle.command.specs.Command.{SelectedOn};
 ghost use Rattle.turn.specs.Turn.{Tracks, alone, filled, given, toldOf, laid};
 ghost use Rattle.command.specs.declared.Plan.the-variants.{Works};
 ghost use Rattle.command.specs.Command.{Sighted, sight, does, acts, readyBy, readies};

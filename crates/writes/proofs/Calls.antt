@@ -21,7 +21,7 @@ use Rattle.room.proofs.Laws.{fits-ends}
 use Rattle.recording.specs.Recording.{areaWritten, wiped, Lies}
 use Rattle.laying.specs.Laying.{newCounts, newRecord, formatted, Ends}
 use Rattle.laying.proofs.Laws.{length-area, length-new}
-use Rattle.work.specs.Work.{named, seeing}
+use Rattle.command.specs.Command.{named, seeing}
 use Rattle.table.specs.declared.Names.{Names}
 use Rattle.table.specs.declared.Write.{Write}
 use Rattle.table.specs.declared.Write.the-variants as Write

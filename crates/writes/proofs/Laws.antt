@@ -23,7 +23,7 @@ use Rattle.hunt.specs.Hunt.{Whole}
 use Rattle.room.specs.Room.{fits}
 use Rattle.room.proofs.Laws.{fits-ends}
 use Rattle.recording.specs.Recording.{areaWritten}
-use Rattle.work.specs.Work.{areaIf, named}
+use Rattle.command.specs.Command.{areaIf, named}
 use Rattle.laying.specs.Laying.{formatted, recorded}
 use Rattle.laying.proofs.Laws.{formatted-is, length-area, recorded-lies}
 use Rattle.turn.specs.Turn.{Piece, Turn, laid, isCheck, checks}

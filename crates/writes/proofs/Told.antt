@@ -18,9 +18,9 @@ use Rattle.hunt.specs.declared.Spot.the-variants.{Marker}
 use Rattle.room.specs.Room.{fits}
 use Rattle.room.proofs.Laws.{fits-ends}
 use Rattle.held.specs.declared.Selection.the-variants.{On}
-use Rattle.outcome.specs.declared.Ending.{Ending}
-use Rattle.outcome.specs.declared.Ending.the-variants.{Normal, Exception}
-use Rattle.work.specs.Work.{areaIf, named}
+use Rattle.turn.specs.declared.Ending.{Ending}
+use Rattle.turn.specs.declared.Ending.the-variants.{Normal, Exception}
+use Rattle.command.specs.Command.{areaIf, named}
 use Rattle.laying.specs.Laying.{newCounts, recorded}
 use Rattle.table.specs.declared.Write.{Write}
 use Rattle.table.specs.declared.Write.the-variants as Write

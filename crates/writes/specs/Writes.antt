@@ -13,8 +13,8 @@ use Rattle.hunt.specs.declared.Spot.the-variants.{Marker}
 use Rattle.room.specs.Room.{fits}
 use Rattle.recording.specs.Recording.{areaWritten, Lies}
 use Rattle.held.specs.declared.Selection.the-variants.{On}
-use Rattle.outcome.specs.declared.Ending.the-variants.{Normal}
-use Rattle.work.specs.Work.{named}
+use Rattle.turn.specs.declared.Ending.the-variants.{Normal}
+use Rattle.command.specs.Command.{named}
 use Rattle.laying.specs.Laying.{newCounts}
 use Rattle.table.specs.declared.Names.the-variants as Names
 use Rattle.table.specs.declared.Write.{Write}

@@ -1,5 +1,5 @@
 -- The orders are those after a No-op, and the next word is the one told.
-use Rattle.outcome.specs.Outcome.{after, ordered}
+use Rattle.turn.specs.Turn.{after, ordered}
 use Rattle.chain.specs.Stroke.{passed}
 use mathlib.Core.Path.{refl}
 use Rattle.chain.proofs.passed.Statement.{statement}

@@ -1,5 +1,5 @@
 -- Each arm knows the ending, and gives what the model has there.
-use Rattle.settle.specs.Settle.{endsWell}
+use Rattle.channel.specs.Channel.{endsWell}
 use borrow.Author.Needs.{needs}
 use Rattle.channel.proofs.ends_well.Statement.{statement}
 use Rattle.channel.proofs.ends_well.Tie as tie

@@ -1,5 +1,5 @@
 -- The sum modulo 2 to the 24 is what `words::advanced` gives.
-use Rattle.settle.specs.Settle.{onward}
+use Rattle.channel.specs.Channel.{onward}
 use borrow.Author.Needs.{needs}
 use Rattle.channel.proofs.onward.Statement.{statement}
 use Rattle.channel.proofs.onward.Tie as tie

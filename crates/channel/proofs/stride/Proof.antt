@@ -1,5 +1,5 @@
 -- Each arm knows the ending, and gives what the model has there.
-use Rattle.settle.specs.Settle.{stride}
+use Rattle.channel.specs.Channel.{stride}
 use borrow.Author.Needs.{needs}
 use Rattle.channel.proofs.stride.Statement.{statement}
 use Rattle.channel.proofs.stride.Tie as tie

@@ -1,5 +1,5 @@
 -- Each arm knows the ending, and gives what the model has there.
-use Rattle.settle.specs.Settle.{unitStatus}
+use Rattle.channel.specs.Channel.{unitStatus}
 use borrow.Author.Needs.{needs}
 use Rattle.channel.proofs.unit_status.Statement.{statement}
 use Rattle.channel.proofs.unit_status.Tie as tie

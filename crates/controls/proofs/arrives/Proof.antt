@@ -1,13 +1,14 @@
 -- Each arm knows what the address came to, and makes of it what the model has there.
 use Rattle.turn.specs.Turn.{movingOf, toldOf}
 use Rattle.command.specs.Command.{sight, arrives}
+use Rattle.turn.specs.Turn.{sought, standing}
 use borrow.Author.Needs.{needs}
 use Rattle.controls.proofs.arrives.Statement.{statement}
 use Rattle.controls.proofs.arrives.Tie as tie
 
 returns : tie.Need-returns
-unfolding toldOf movingOf arrives sight
-returns c t v = rw (c .before .before .before .before .x .given .1, c .orders-after .ensures, c .before .arrived .ensures)
+unfolding toldOf movingOf arrives sight sought standing
+returns c t v = rw (c .before .before .before .x .given .1, c .orders-after .ensures)
 
 returns-2 : tie.Need-returns-2
 unfolding arrives
@@ -15,4 +16,4 @@ returns-2 c t v = rw (c .before .before .x2 .given .1) (c .fails .ensures t v)
 
 pub arrives-spec : {M : Type 1} → statement M
 arrives-spec =
-    tie.close (tie.spec (λ c. search needs) (λ c κs. search needs) (λ c κs. search needs) (λ c. search needs) (λ c κs. search needs) returns returns-2)
+    tie.close (tie.spec (λ c. search needs) (λ c κs. search needs) (λ c. search needs) (λ c κs. search needs) returns returns-2)

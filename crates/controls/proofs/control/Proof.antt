@@ -2,7 +2,7 @@
 use mathlib.Core.Path.{sym, _∙_}
 use mathlib.Core.Bool.{false}
 use mathlib.Core.List.{[]}
-use Rattle.outcome.specs.declared.Ending.the-variants.{Normal}
+use Rattle.turn.specs.declared.Ending.the-variants.{Normal}
 use Rattle.turn.specs.Turn.{movingOf, None, Gives}
 use Rattle.command.specs.Command.{does, sight, rests, senses, senseBytes}
 use Rattle.ending.proofs.Laws.{ended}

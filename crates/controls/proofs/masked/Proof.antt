@@ -1,5 +1,5 @@
 -- The byte is the mask now and a mask is set; the place stands and sense is cleared.
-use Rattle.outcome.specs.Outcome.{ordered}
+use Rattle.turn.specs.Turn.{ordered}
 use Rattle.turn.specs.Turn.{movingOf, toldOf}
 use Rattle.command.specs.Command.{sight, masked}
 use borrow.Author.Needs.{needs}

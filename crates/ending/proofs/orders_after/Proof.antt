@@ -1,12 +1,13 @@
--- It is its one call.
+-- It is the model's record.
 use Rattle.command.specs.Command.{ordersAfter}
-use borrow.Author.Needs.{needs}
+use mathlib.Core.Path.{refl}
+use Rattle.turn.specs.Turn.{after, ordered}
 use Rattle.ending.proofs.orders_after.Statement.{statement}
 use Rattle.ending.proofs.orders_after.Tie as tie
 
 returns : tie.Need-returns
-unfolding ordersAfter
-returns c = c .ordered-after .ensures
+unfolding ordersAfter after ordered
+returns c = refl
 
 pub orders-after-spec : {M : Type 1} → statement M
-orders-after-spec = tie.close (tie.spec (λ c κs. search needs) returns)
+orders-after-spec = tie.close (tie.spec returns)

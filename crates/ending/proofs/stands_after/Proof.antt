@@ -1,5 +1,5 @@
 -- The parts are made as the model has them, sense by its call.
-use Rattle.outcome.specs.Outcome.{standing}
+use Rattle.turn.specs.Turn.{standing}
 use Rattle.command.specs.Command.{standsAfter}
 use borrow.Author.Needs.{needs}
 use Rattle.ending.proofs.stands_after.Statement.{statement}

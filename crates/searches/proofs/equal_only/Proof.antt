@@ -1,5 +1,5 @@
 -- Each arm knows which it is, and gives what the model has there.
-use Rattle.search.specs.Search.{equalOnly}
+use Rattle.command.specs.Command.{equalOnly}
 use borrow.Author.Needs.{needs}
 use Rattle.searches.proofs.equal_only.Statement.{statement}
 use Rattle.searches.proofs.equal_only.Tie as tie

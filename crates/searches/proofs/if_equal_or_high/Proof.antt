@@ -1,5 +1,5 @@
 -- Each arm knows which it is, and gives what the model has there.
-use Rattle.search.specs.Search.{satisfies}
+use Rattle.command.specs.Command.{satisfies}
 use borrow.Author.Needs.{needs}
 use Rattle.searches.proofs.if_equal_or_high.Statement.{statement}
 use Rattle.searches.proofs.if_equal_or_high.Tie as tie

@@ -1,6 +1,6 @@
 -- Each branch is a test of the model.
 use borrow.Author.Tests.{not-true, not-false}
-use Rattle.licence.specs.Licence.{equalId}
+use Rattle.command.specs.Command.{equalId}
 use Rattle.task.proofs.equal_id.Statement.{statement}
 use Rattle.task.proofs.equal_id.Tie as tie
 

@@ -1,6 +1,6 @@
 -- Each branch is a test of the model.
 use borrow.Author.Tests.{not-true, not-false, eq-eqb, ne-eqb}
-use Rattle.licence.specs.Licence.{equalIdOrKey}
+use Rattle.command.specs.Command.{equalIdOrKey}
 use Rattle.task.proofs.equal_id_or_key.Statement.{statement}
 use Rattle.task.proofs.equal_id_or_key.Tie as tie
 

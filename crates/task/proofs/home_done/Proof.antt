@@ -1,6 +1,6 @@
 -- Each branch is a test of the model.
 use borrow.Author.Tests.{not-true, not-false, eq-eqb, ne-eqb}
-use Rattle.licence.specs.Licence.{homeDone}
+use Rattle.command.specs.Command.{homeDone}
 use Rattle.task.proofs.home_done.Statement.{statement}
 use Rattle.task.proofs.home_done.Tie as tie
 

@@ -1,6 +1,6 @@
 -- Each branch is a test of the model.
 use borrow.Author.Tests.{eq-eqb, ne-eqb}
-use Rattle.licence.specs.Licence.{recordWritten}
+use Rattle.command.specs.Command.{recordWritten}
 use Rattle.task.proofs.record_written.Statement.{statement}
 use Rattle.task.proofs.record_written.Tie as tie
 

@@ -1,2 +1,0 @@
--- The model of the command codes.
-pub mod Commands

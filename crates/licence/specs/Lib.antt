@@ -1,2 +1,0 @@
--- The model of what a write needs before it may write.
-pub mod Licence

@@ -1,2 +1,0 @@
--- The model of what a command leaves.
-pub mod Outcome

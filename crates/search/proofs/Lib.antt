@@ -1,3 +1,0 @@
--- Laws of the searches.
-pub mod Laws
-pub mod Fields

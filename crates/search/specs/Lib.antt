@@ -1,3 +1,0 @@
--- The model of the searches.
-pub mod Search
-pub mod Inside

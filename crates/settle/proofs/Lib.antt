@@ -1,2 +1,0 @@
--- Laws of how the channel ends a command.
-pub mod Laws

@@ -1,2 +1,0 @@
--- The model of how the channel ends a command.
-pub mod Settle

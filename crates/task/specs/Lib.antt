@@ -1,0 +1,2 @@
+-- What the functions inside the crate promise one another.
+pub mod Inside

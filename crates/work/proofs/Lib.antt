@@ -1,3 +1,0 @@
--- Laws of what work reads.
-pub mod Laws
-pub mod Seen

@@ -1,2 +1,0 @@
--- The model of what work on a record reads.
-pub mod Work
