@@ -1,11 +1,11 @@
 -- Control commands and unknown codes: the bytes sent are those at the word's address.
 use Prim.Native.Nat.{ℕ, _+_, _*_, _<_, _≤_}
-use mathlib.Core.Path.{_≡_, refl, sym, ap, ap₂, _∙_}
+use mathlib.Core.Path.{_≡_, refl, ap, ap₂, _∙_}
 use mathlib.Core.Bool.{Bool, true, false}
 use mathlib.Core.List.{List, []}
 use native.Mathlib.Omega.{arith}
 use native.Mathlib.Nat.{add-zero}
-use lib.ListN.{length, getD, take}
+use lib.ListN.{getD, take}
 use lib.Dec.{ltb}
 use borrow.Author.Tests.{ltb-false}
 use Rattle.cells.specs.Choice.{pick}
@@ -35,22 +35,19 @@ use Rattle.control.specs.Control as Control
 use Rattle.control.specs.Control.{controls, puts}
 use Rattle.settle.specs.Settle as Settle
 use Rattle.chain.specs.Act.{Acted, acted, unknown}
-use Rattle.table.specs.declared.Licence.the-variants as Licence
-use Rattle.table.specs.declared.Bar.{Bar}
-use Rattle.table.specs.declared.Control as Does
 use Rattle.table.specs.declared.Rule.{Rule}
 use Rattle.table.specs.Table as Table
-use Rattle.table.specs.Table.{ruleOf, isHome, quiet, control, seek}
+use Rattle.table.specs.Table.{seek}
 use Rattle.turn.specs.Turn.{Tracks, Gives, Takes, given, movingOf, wants, Turn, turn, toldOf, isCheck, checks}
 use Rattle.command.specs.declared.Task.{Task}
 use Rattle.command.specs.declared.Plan.{Plan}
 use Rattle.command.specs.declared.Plan.the-variants.{Refuses, Works}
-use Rattle.command.specs.Command.{task, licensed, unlessBarred, aimed, plans, areasOf, countsIn, allRead, gets, saw, goesOver, allRecorded, Sight, areasRead, sight, fails, senseAfter, standsAfter, ordersAfter, endsAt, ends, rests, senses, senseBytes, soughtBy, addressed, arrives, seeks, masked, masks, spacedPlace, spaces, does, acts, jobOf, hasRead, readyBy, planReads, turnBy, obeys}
+use Rattle.command.specs.Command.{task, licensed, unlessBarred, aimed, plans, areasOf, countsIn, allRead, gets, Sight, areasRead, sight, fails, senseAfter, standsAfter, ordersAfter, endsAt, ends, rests, senses, senseBytes, soughtBy, addressed, arrives, seeks, masked, masks, spacedPlace, spaces, does, acts, jobOf, hasRead, readyBy, planReads, turnBy, obeys}
 use Rattle.channel.specs.Channel as Channel
 use Rattle.channel.specs.Channel.{fetched, moved, moves, lengthCounts, wrongLength}
 use Rattle.same.specs.Step.{tracksOf, laidOn}
 use Rattle.same.proofs.Rows.{controlRule, looks-is, home-is}
-use Rattle.same.proofs.Same.{Same, Fits, put-none, put-nothing, laid-nothing, sent-long, same-check, check-none, same-end}
+use Rattle.same.proofs.Same.{Same, Fits, put-none, laid-nothing, sent-long, same-check, check-none, same-end}
 
 module _ {g : Shape} {s : Stands} {d : Word} {st cells : List ℕ} (F : Fits g s d st cells) (o : Orders) where
   abbrev t : List ℕ

@@ -1,7 +1,6 @@
 -- A piece laid on the pack is the track with the piece laid over it, put back; areas under one head are read as the areas of its track.
 use Prim.Native.Nat.{ℕ, _+_, _-_, _≤_}
 use mathlib.Core.Path.{_≡_, refl, sym, ap, ap₂, _∙_}
-use mathlib.Core.Bool.{Bool}
 use mathlib.Core.List.{List, [], _∷_, _++_, append-assoc, append-nil}
 use native.Mathlib.Omega.{arith}
 use lib.ListN.{length, take, drop, replicate, length-append, length-replicate}
@@ -16,7 +15,7 @@ use Rattle.pack.specs.declared.Head.{Head}
 use Rattle.work.specs.declared.Got.{Got}
 use Rattle.work.specs.declared.Got.the-variants.{Fails}
 use Rattle.work.specs.Work as Work
-use Rattle.work.specs.Work.{Seen, seeing}
+use Rattle.work.specs.Work.{seeing}
 use Rattle.laying.specs.Laying.{formatted, recorded}
 use Rattle.laying.proofs.Laws.{formatted-is}
 use Rattle.write.specs.Write as Write

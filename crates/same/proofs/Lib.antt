@@ -7,3 +7,4 @@ pub mod Looking
 pub mod Control
 pub mod Writing
 pub mod Step
+pub mod Areas

@@ -10,7 +10,6 @@ use Rattle.cells.specs.Choice.{pick, both}
 use Rattle.cells.specs.Bytes.{number, part, overlay}
 use Rattle.cells.specs.Cells.{marks}
 use Rattle.cells.proofs.Laws.{take-min}
-use Rattle.rows.specs.declared.Row.{Row}
 use Rattle.words.specs.declared.Word.{Word}
 use Rattle.areas.specs.declared.Counts.{Counts}
 use Rattle.compare.specs.Compare.{compared}
@@ -31,7 +30,7 @@ use Rattle.work.specs.declared.Got.the-variants.{Sees, Fails}
 use Rattle.work.specs.Work as Work
 use Rattle.work.specs.Work.{Seen, sawBy, workReads, countsIn, sent, idOf}
 use Rattle.outcome.specs.declared.Ending.the-variants.{Normal, Satisfied, Exception}
-use Rattle.outcome.specs.Outcome.{placed, checked}
+use Rattle.outcome.specs.Outcome.{placed}
 use Rattle.plan.specs.declared.Job as OldJob
 use Rattle.plan.specs.declared.Plan as OldPlan
 use Rattle.plan.specs.declared.Plan.the-variants as Planned
@@ -46,11 +45,11 @@ use Rattle.table.specs.declared.Names.{Names}
 use Rattle.table.specs.declared.Serves.{Serves}
 use Rattle.table.specs.declared.Rule.{Rule}
 use Rattle.table.specs.Table.{search, read}
-use Rattle.turn.specs.Turn.{Tracks, Lies, Gives, Takes, given, movingOf, wants, Turn, isCheck, checks}
+use Rattle.turn.specs.Turn.{Tracks, Gives, Takes, given, movingOf, wants, Turn, isCheck}
 use Rattle.command.specs.declared.Plan.{Plan}
 use Rattle.command.specs.declared.Job.{Job}
 use Rattle.command.specs.Command as Command
-use Rattle.command.specs.Command.{marksOf, plans, liesOn, areasOf, allRead, gets, saw, Sight, areasRead, sight, senseAfter, standsAfter, ordersAfter, endsAt, ends, endingOf, fieldOf, comparison, satisfied, wholly, comparesWith, compares, offered, gives, acts, jobOf, hasRead, readyBy, planReads, turnBy, obeys}
+use Rattle.command.specs.Command.{marksOf, liesOn, areasOf, allRead, gets, saw, areasRead, sight, senseAfter, standsAfter, ordersAfter, endsAt, ends, endingOf, fieldOf, comparison, satisfied, wholly, comparesWith, compares, offered, gives, acts, jobOf, hasRead, readyBy, planReads, turnBy, obeys}
 use Rattle.channel.specs.Channel as Channel
 use Rattle.channel.specs.Channel.{fetched, moves}
 use Rattle.same.specs.Step.{tracksOf, laidOn}

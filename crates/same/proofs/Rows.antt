@@ -1,11 +1,11 @@
 -- The table's row of a code is the row of its command: a line a code. What the columns say of the command before is what the old model says of it.
 use Prim.Native.Nat.{ℕ}
-use mathlib.Core.Path.{_≡_, refl, sym, ap, subst}
+use mathlib.Core.Path.{_≡_, refl, sym, subst}
 use mathlib.Core.Bool.{Bool, true, false, false≢true}
 use lib.Dec.{eqb}
 use borrow.Author.Tests.{eqb-true}
 use Rattle.mask.specs.declared.Writing.the-variants as Writing
-use Rattle.commands.specs.declared.How.the-variants.{IfEqual, IfHigh, IfEqualOrHigh}
+use Rattle.commands.specs.declared.How.the-variants.{IfEqual}
 use Rattle.commands.specs.declared.Command.{Command}
 use Rattle.commands.specs.declared.Command.the-variants.{Controls, Searches, Reads, Writes, Unknown}
 use Rattle.commands.specs.declared.Control.{Control}
@@ -133,7 +133,7 @@ looks-by (Writes WriteData) = refl
 looks-by (Writes WriteKeyData) = refl
 looks-by Unknown = refl
 
--- Write HA is home address work too, but nothing looks after it
+-- the aim of Write HA is the home address too, but Space Record may not follow it
 home-by : (k : Command) → Old.looks k ≡ true → isHome (rule k .aim) ≡ worksHome k
 unfolding Old.looks isHome worksHome searchesHome readsHome
 home-by (Controls c) e = absurd (false≢true e)

@@ -7,7 +7,6 @@ use lib.ListN.{length}
 use lib.Dec.{ltb, leb}
 use borrow.Author.Tests.{ltb-true}
 use Rattle.cells.specs.Choice.{pick}
-use Rattle.cells.specs.Cells.{trackCells}
 use Rattle.cells.proofs.Tests.{pick-all}
 use Rattle.words.specs.declared.Word.{Word}
 use Rattle.words.specs.declared.Cause.the-variants.{NoCount}

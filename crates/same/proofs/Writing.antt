@@ -17,7 +17,7 @@ use Rattle.mask.specs.Mask.{barsWrite}
 use Rattle.words.specs.declared.Word.{Word}
 use Rattle.house_check.specs.Area.{laid}
 use Rattle.areas.specs.declared.Counts.{Counts}
-use Rattle.areas.specs.Areas.{homeFlag, zeroFirst, keyArea, dataArea, recordCells, endBy, needed}
+use Rattle.areas.specs.Areas.{homeFlag, keyArea, dataArea, recordCells, endBy, needed}
 use Rattle.areas.specs.Flags.{flagOfZero, flagAfter}
 use Rattle.hunt.specs.declared.Spot.{Spot}
 use Rattle.hunt.specs.declared.Spot.the-variants.{Zero, Marker}
@@ -50,7 +50,6 @@ use Rattle.licence.specs.Licence.{aim, taken, selected, writing}
 use Rattle.laying.specs.Laying.{newCounts, newRecord, formatted}
 use Rattle.laying.proofs.Laws.{length-area, length-new}
 use Rattle.write.specs.declared.Laying.the-variants.{Stops, Lays}
-use Rattle.write.specs.Inside.{Over}
 use Rattle.write.proofs.Kept.{recorded-over}
 use Rattle.write.specs.Write as Write
 use Rattle.write.specs.Write.{laidOut, work, recordBytes, keyUpdated, dataUpdated, laysUpdate, writeReads, countsFirst, readFirst, wrote, writeGot, writeBy, writes}
