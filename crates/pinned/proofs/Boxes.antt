@@ -1,5 +1,5 @@
 -- Each wrong box differs from the right one on a chain of one or two words: the same byte or value comes out as two numbers. What is said is
--- an equation, so it admits one box. Assumes nothing.
+-- an equation, so it admits one box.
 use Prim.Native.Nat.{ℕ, zero, suc, _%_}
 use native.Mathlib.Omega.{arith}
 use mathlib.Core.Path.{_≡_, refl, ap}
@@ -7,39 +7,16 @@ use mathlib.Core.List.{List, [], _∷_}
 use lib.ListN.{getD}
 use lib.Dec.{lit≤}
 use Rattle.cells.specs.Choice.{pick}
-use Rattle.cells.specs.Bytes.{numberFrom, part, overlay}
-use Rattle.cells.specs.Cells.{bytesOf, cellsOf, allBytes}
-use Rattle.house_check.specs.Check as Check
-use Rattle.house_check.specs.Check.{feed, byteBits, bits, check}
-use Rattle.house_check.specs.Area as Area
-use Rattle.house_check.specs.Area.{agrees, goodCells, laid}
-use Rattle.areas.specs.Areas.{areaCells, readable, areaBytes, rowOf}
-use Rattle.mask.specs.Mask.{legal}
-use Rattle.rows.specs.Rows.{movedBy}
 use Rattle.words.specs.declared.Word.{Word}
-use Rattle.words.specs.Words.{wordAt, testedCommand, testedWord, tested}
-use Rattle.words.specs.Status.{stored, statusFor}
 use Rattle.pack.specs.declared.Shape.{Shape}
-use Rattle.pack.specs.Shapes.{packFits}
-use Rattle.pack.specs.Tracks.{startOf, trackAt}
-use Rattle.compare.specs.Compare.{compared}
-use Rattle.commands.specs.Commands.{readOf, writeOf, searchOf, commandOf, selects}
-use Rattle.held.specs.Held.{freshStands, freshOrders, freshChannel, fresh, rested}
-use Rattle.turn.specs.Turn.{checked}
-use Rattle.command.specs.Command.{workReads, allRead, gets, seeing, saw}
-use Rattle.command.specs.Command.{searchWork, readWork, homeJob, searchPlan, readPlan}
-use Rattle.command.specs.Command.{fieldOf, howOf, comparison, satisfies, found, searched, searchGot, searchBy, searches}
-use Rattle.read.specs.Read.{isEmpty, moved, readGot, readBy, reads}
-use Rattle.control.specs.Control.{noOp, controls}
-use Rattle.channel.specs.Channel.{unitStatus, endsWell, stride, wrongLength, goesOn, onward, heldAfter, statusAfter, storageAfter}
-use Rattle.chain.specs.Act.{obeys, acts}
-use Rattle.chain.specs.Step.{World, world, under, settled, obeyed, takes, step, run}
-use Rattle.chain.specs.Legal.{selectionFits}
+use Rattle.held.specs.Held.{fresh}
+use Rattle.chain.specs.Step.{World, world, step, run}
 use Rattle.chain.proofs.Runs.{run-idle}
 use Rattle.host.specs.declared.Answer.the-variants.{NoChain}
-use Rattle.host.specs.Host.{Hears, hears, storageFits, standsFit, ordersFit, channelFits, heldFits, guardOf, guards, beginning, ran, goes}
-use Rattle.sound.specs.Tracks.{filled, home, count, zeroth, alone}
+use Rattle.host.specs.Host.{Hears, hears, guardOf, guards, beginning, ran, goes}
+use Rattle.sound.specs.Tracks.{alone}
 use Rattle.claims.specs.Figures.{word, storageWith, onePack, zeroTrack, searchThenNoOp}
+use Rattle.claims.proofs.Opened.{box}
 use Rattle.claims.proofs.Pinned.{one-outcome}
 use Rattle.pinned.specs.Boxes.{allUnder, lent, right, runBy, steppedBy, refusesAlways, replied, fixedReply, doesNothing, checksRead, takesChecking, dataChecksReads, counted, atOnce, runsAtOnce, inventedAfter, settledInventing, takesInventing, inventsCount, ShutOutAll, OneBox}
 
@@ -66,7 +43,7 @@ abbrev twoWords : World
 twoWords = world (beginning fresh 0 256) searchThenNoOp alone
 
 pub shut-out : ShutOutAll
-unfolding numberFrom part overlay bytesOf cellsOf allBytes Check.step feed byteBits bits check Area.checked agrees goodCells laid areaCells readable areaBytes rowOf legal movedBy wordAt testedCommand testedWord tested stored statusFor packFits startOf trackAt compared readOf writeOf searchOf commandOf selects freshStands freshOrders freshChannel fresh rested checked workReads allRead gets seeing saw searchWork readWork homeJob searchPlan readPlan fieldOf howOf comparison satisfies found searched searchGot searchBy searches isEmpty moved readGot readBy reads noOp controls unitStatus endsWell stride wrongLength goesOn onward heldAfter statusAfter storageAfter obeys acts under settled obeyed takes step run selectionFits storageFits standsFit ordersFit channelFits heldFits guardOf guards beginning ran goes filled home count zeroth alone allUnder lent runBy steppedBy refusesAlways replied fixedReply doesNothing checksRead takesChecking dataChecksReads counted atOnce runsAtOnce inventedAfter settledInventing takesInventing inventsCount
+unfolding box allUnder lent runBy steppedBy refusesAlways replied fixedReply doesNothing checksRead takesChecking dataChecksReads counted atOnce runsAtOnce inventedAfter settledInventing takesInventing inventsCount
 shut-out = record {
   refusing-always = λ a m.
       let z : _≡_ {A = ℕ} 0 0x4C = ap (byteLeft 68) (m .go-so onePack 1 (homeSought alone) (lit≤ tt) refl) in

@@ -1,5 +1,4 @@
 -- Document 01, "How tightly it is pinned": what a box must do, and the six boxes that are shut out, each as a function of the model.
--- Assumes nothing.
 use Prim.Native.Nat.{ℕ, zero, suc, _≤_}
 use mathlib.Core.Path.{_≡_}
 use mathlib.Core.Bool.{Bool, true}
@@ -11,20 +10,18 @@ use Rattle.words.specs.declared.Word.{Word}
 use Rattle.words.specs.declared.Status.{Status}
 use Rattle.words.specs.declared.Tested.{Tested}
 use Rattle.words.specs.declared.Tested.the-variants.{Obey, Jump, Bad}
-use Rattle.words.specs.Words.{tested}
 use Rattle.words.specs.Status.{stored, statusFor}
 use Rattle.pack.specs.declared.Shape.{Shape}
-use Rattle.pack.specs.Tracks.{trackAt}
-use Rattle.commands.specs.declared.Command.{Command}
-use Rattle.commands.specs.declared.Command.the-variants.{Controls, Searches, Reads, Writes, Unknown}
-use Rattle.commands.specs.Commands.{commandOf}
 use Rattle.held.specs.declared.Channel.{Channel}
 use Rattle.held.specs.Held.{rested}
-use Rattle.outcome.specs.declared.Done.{Done}
-use Rattle.turn.specs.Turn.{checked}
-use Rattle.channel.specs.Channel.{unitStatus, lengthStatus, goesOn}
-use Rattle.chain.specs.Act.{Acted, acted, acts}
-use Rattle.chain.specs.Step.{World, world, under, settled, obeyed, takes, step, run}
+use Rattle.channel.specs.Channel.{unitStatus}
+use Rattle.table.specs.declared.Act.{Act}
+use Rattle.table.specs.declared.Act.the-variants as Act
+use Rattle.table.specs.Table.{ruleOf}
+use Rattle.turn.specs.declared.Told.{Told}
+use Rattle.turn.specs.Turn.{given, Turn, toldOf, checks}
+use Rattle.channel.specs.Channel.{placed, wrongLength, goesOn}
+use Rattle.chain.specs.Step.{World, world, next, turnOf, settled, obeyed, takes, step, run}
 use Rattle.host.specs.declared.Answer.{Answer}
 use Rattle.host.specs.declared.Answer.the-variants.{ChainEnded, AllowanceUsed, NoChain}
 use Rattle.host.specs.Host.{Hears, hears, guardOf, guards, starts, ran, goes}
@@ -90,23 +87,19 @@ doesNothing = record { start = λ g w. hears (starts g w .answer) w; go = λ g n
 
 -- ---- "Data Check on every read, which demand 3 alone would admit": a read ends with 08 00, and no byte moves
 
-unfoldable pub checksRead : Shape → World → Word → Command → World
-checksRead g w d (Controls c) = obeyed g w d
-checksRead g w d (Searches c) = obeyed g w d
-checksRead g w d (Reads c) =
-    settled g w d
-    (acted (checked (w .held .stands) (w .held .orders) (d .count) Unreadable) (w .storage) (trackAt (w .cells) (under g (w .held))))
-checksRead g w d (Writes c) = obeyed g w d
-checksRead g w d Unknown = obeyed g w d
+unfoldable pub checksRead : Shape → World → Word → Act → World
+checksRead g w d (Act.Control a) = obeyed g w d
+checksRead g w d (Act.Search h) = obeyed g w d
+checksRead g w d (Act.Read c) = settled g w d (checks (w .held .stands) (w .held .orders) [] Unreadable)
+checksRead g w d (Act.Write a) = obeyed g w d
 
 unfoldable pub takesChecking : Shape → World → Tested → World
-takesChecking g w (Obey d) = checksRead g w d (commandOf (d .code))
+takesChecking g w (Obey d) = checksRead g w d (ruleOf (d .code) .act)
 takesChecking g w (Jump a) = takes g w (Jump a)
 takesChecking g w (Bad cause) = takes g w (Bad cause)
 
 unfoldable pub dataChecksReads : Box
-dataChecksReads =
-    steppedBy (λ g w. takesChecking g w (tested (w .storage) (w .held .channel .next) (w .held .channel .«after_tic»)))
+dataChecksReads = steppedBy (λ g w. takesChecking g w (next w))
 
 -- ---- "Running the whole chain at once and merely counting afterwards": storage and tracks are those after `most` words; the words are
 -- counted, the answer is told from the count, and what is held is what should be held after the allowance. For a chain that ends within
@@ -128,23 +121,21 @@ runsAtOnce most = record {
 
 -- ---- "An invented count left": it is told from the command word in any way, but not from the bytes that moved
 
-unfoldable pub inventedAfter : (Word → ℕ) → Channel → Word → Done → List ℕ → List ℕ
+unfoldable pub inventedAfter : (Word → ℕ) → Channel → Word → Told → List ℕ → List ℕ
 inventedAfter left c d x s =
-    pick (goesOn d x) s (stored s (statusFor (c .key) (c .next) (unitStatus (x .ending)) (lengthStatus d x) (left d)))
+    pick (goesOn d x) s (stored s (statusFor (c .key) (c .next) (unitStatus (x .ending)) (pick (wrongLength d x) 0x40 0x00) (left d)))
 
-unfoldable pub settledInventing : (Word → ℕ) → Shape → World → Word → Acted → World
-settledInventing left g w d a =
-    world (settled g w d a .held) (inventedAfter left (w .held .channel) d (a .done) (a .storage)) (settled g w d a .cells)
+unfoldable pub settledInventing : (Word → ℕ) → Shape → World → Word → Turn → World
+settledInventing left g w d t =
+    world (settled g w d t .held) (inventedAfter left (w .held .channel) d (toldOf t) (placed (w .storage) d (given (t .moves)))) (settled g w d t .cells)
 
 unfoldable pub takesInventing : (Word → ℕ) → Shape → World → Tested → World
-takesInventing left g w (Obey d) =
-    settledInventing left g w d (acts g (w .held .stands) (w .held .orders) d (w .storage) (trackAt (w .cells) (under g (w .held))))
+takesInventing left g w (Obey d) = settledInventing left g w d (turnOf g w d)
 takesInventing left g w (Jump a) = takes g w (Jump a)
 takesInventing left g w (Bad cause) = takes g w (Bad cause)
 
 unfoldable pub inventsCount : (Word → ℕ) → Box
-inventsCount left =
-    steppedBy (λ g w. takesInventing left g w (tested (w .storage) (w .held .channel .next) (w .held .channel .«after_tic»)))
+inventsCount left = steppedBy (λ g w. takesInventing left g w (next w))
 
 -- ---- all six, whatever the answer, the status word, the number of words (from two on) and the invention
 
