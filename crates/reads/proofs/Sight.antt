@@ -28,7 +28,7 @@ use Rattle.command.specs.declared.Job.{Job}
 use Rattle.command.specs.Command.{areasOf, areasRead, sight, Sighted, endsAt, ends, endingOf, offered, gives}
 use Rattle.ending.specs.Ending.{endedAt}
 use Rattle.reads.specs.declared.Rest.{Rest}
-use Rattle.reads.specs.Inside.{LieIf, LieAll, Puts, start, countGiven, keyGiven, bodyGiven, bytesGiven, manyGiven}
+use Rattle.reads.specs.Inside.{readTold, LieIf, LieAll, Puts, start, countGiven, keyGiven, bodyGiven, bytesGiven, manyGiven}
 use Rattle.reads.proofs.Laws.{long, all-put, none-put}
 
 -- ---- a count's 8 bytes are those of its cells but the flag's
@@ -189,8 +189,7 @@ module _ (t : Tracks) (j : Job) (s : Sighted t j) (counted : Bool) where
   many-are Names.HomeAddress p = long _ 0 5 (home-on t j s p)
   many-are (Names.Count key body) p = record-many _ _ counted (j .counts) key body (record-on t j s counted key body p)
 
-  pub told-are : (v : List ℕ) (e : Ending) (m : ℕ) (r : Told) → e ≡ endingOf j → m ≡ manyGiven counted (j .rule .names) (j .counts)
-      → r ≡ endedAt j (j .task) e (Moving.Gives m) false → r ≡ toldOf (gives counted (sight t j v))
-  unfolding toldOf movingOf gives ends endsAt sight endedAt
-  told-are v e m r p q u =
-      u ∙ (λ i. endedAt j (j .task) (p i) (Moving.Gives ((q ∙ sym (ap length (gives-these t j s counted) ∙ many-are (j .rule .names) refl)) i)) false)
+  pub told-are : (v : List ℕ) → readTold counted j ≡ toldOf (gives counted (sight t j v))
+  unfolding readTold toldOf movingOf gives ends endsAt sight endedAt
+  told-are v =
+      ap (λ (m : ℕ). endedAt j (j .task) (endingOf j) (Moving.Gives m) false) (sym (ap length (gives-these t j s counted) ∙ many-are (j .rule .names) refl))

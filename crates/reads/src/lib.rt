@@ -12,9 +12,9 @@ ghost use lib.ListN.{length};
 ghost use Rattle.cells.specs.Choice.{pick};
 ghost use Rattle.cells.specs.Bytes.{overlay, part};
 ghost use Rattle.cells.specs.Cells.{bytesOf};
-ghost use Rattle.turn.specs.Turn.{Tracks, alone, filled, given, toldOf};
+ghost use Rattle.turn.specs.Turn.{alone, filled, given};
 ghost use Rattle.command.specs.Command.{Sighted, sight, endingOf, gives};
-ghost use Rattle.reads.specs.Inside.{LieIf, LieAll, Puts, recordGiven, manyGiven};
+ghost use Rattle.reads.specs.Inside.{LieIf, LieAll, Puts, recordGiven, manyGiven, readTold};
 
 const HOME_BYTES: u16 = 5;
 
@@ -153,7 +153,7 @@ fn ending_of(j: Job) -> Ending
 
 // A read that has read all that it names.
 pub fn read(counted: bool, j: Job) -> Told
-    ensures { λ r. ⌜ ((t : Tracks) (v : List ℕ) → Sighted t j → r ≡ toldOf (gives counted (sight t j v))) ⌝ }
+    ensures { λ r. ⌜ r ≡ readTold counted j ⌝ }
 {
     let end = ending_of(j);
     let rule = j.rule;

@@ -43,12 +43,12 @@ fn read(code: u8, r: Rule, s: Stands, o: Orders, k: Task, track: &[u16]) -> Read
 // What a command comes to on the track under the head: a row of the Unit Check table, or a job.
 pub fn ready(code: u8, track: &[u16], s: Stands, o: Orders) -> Ready
     requires { ⌜ Whole (now track) × SelectedOn (marks (now track)) (o .selection) ⌝ }
-    ensures { λ x. ⌜ x ≡ readies (alone (now (track .entry))) s o code ⌝ }
+    ensures { λ r. ⌜ r ≡ readies (alone (now (track .entry))) s o code ⌝ }
 {
-    let r = table::rule_of(code);
-    match task::plan(r, track, s, o) {
+    let rule = table::rule_of(code);
+    match task::plan(rule, track, s, o) {
         Plan::Refuses(row) => Ready::Refuses(row),
-        Plan::Works(k) => read(code, r, s, o, k, track),
+        Plan::Works(k) => read(code, rule, s, o, k, track),
     }
 }
 

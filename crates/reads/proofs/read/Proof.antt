@@ -1,11 +1,12 @@
--- All that is named was readable, so its bytes are as many as the counts say.
-use Rattle.reads.proofs.Sight.{told-are}
+-- The bytes are as many as the counts say.
+use Rattle.reads.specs.Inside.{readTold}
 use borrow.Author.Needs.{needs}
 use Rattle.reads.proofs.read.Statement.{statement}
 use Rattle.reads.proofs.read.Tie as tie
 
 returns : tie.Need-returns
-returns c t v s = told-are t _ s _ v _ _ _ (c .before .before .before .ending-of .ensures) (c .before .many-given .ensures) (c .ended .ensures)
+unfolding readTold
+returns c = rw (c .ended .ensures, c .before .before .before .ending-of .ensures, c .before .many-given .ensures)
 
 pub read-spec : {M : Type 1} → statement M
 read-spec =

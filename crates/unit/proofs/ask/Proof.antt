@@ -1,6 +1,8 @@
 -- Each arm knows what the row does, and calls the family that tells it.
 use Rattle.command.specs.Command.{acts}
 use Rattle.writes.proofs.Rows.{writes-by}
+use mathlib.Core.Path.{_∙_}
+use Rattle.reads.proofs.Sight.{told-are}
 use Rattle.unit.proofs.Laws.{told-by}
 use borrow.Author.Needs.{needs}
 use Rattle.unit.proofs.ask.Statement.{statement}
@@ -23,7 +25,7 @@ returns-3 : tie.Need-returns-3
 unfolding acts
 returns-3 c =
     let k = c .before .before .before .before .before .before .before in
-    told-by _ _ _ _ _ (c .before .before .act3 .given .1) (c .read .ensures _ _ (k .pre .1))
+    told-by _ _ _ _ _ (c .before .before .act3 .given .1) (c .read .ensures ∙ told-are _ _ (k .pre .1) _ _)
 
 returns-4 : tie.Need-returns-4
 unfolding acts
