@@ -296,16 +296,16 @@ fn unless_barred(b: Bar, mask: u8, x: Plan) -> Plan
 }
 
 // Where a command works, or the row that ends it.
-pub fn plan(r: Rule, track: &[u16], s: Stands, o: Orders) -> Plan
+pub fn plan(rule: Rule, track: &[u16], s: Stands, o: Orders) -> Plan
     requires { ⌜ Whole (now track) × SelectedOn (marks (now track)) (o .selection) ⌝ }
-    ensures { λ x. ⌜ x ≡ plans r (marksOf (alone (now (track .entry)))) s o ⌝ }
+    ensures { λ r. ⌜ r ≡ plans rule (marksOf (alone (now (track .entry)))) s o ⌝ }
 {
-    let licence = r.licence;
+    let licence = rule.licence;
     if !licensed(licence, o) {
         return Plan::Refuses(Row::WrongBefore);
     }
-    let aim = r.aim;
-    let x = aimed(r, track, s, o, aim);
-    let bar = r.bar;
+    let aim = rule.aim;
+    let x = aimed(rule, track, s, o, aim);
+    let bar = rule.bar;
     unless_barred(bar, o.mask, x)
 }
