@@ -4,7 +4,7 @@ ghost use mathlib.Core.Path.{_≡_};
 ghost use Prim.Native.Nat.{_+_, _*_, _<_};
 ghost use lib.ListN.{getD};
 ghost use Rattle.cells.specs.Cells.{byteOf};
-ghost use Rattle.areas.specs.Areas.{readable, rowOf, homeArea, countArea, countsAt, readCount, keyCells, dataBytes, keyArea, dataArea, recordCells, endBy, needed};
+ghost use Rattle.areas.specs.Areas.{area, readable, rowOf, homeArea, countArea, countsAt, readCount, keyCells, dataBytes, keyArea, dataArea, recordCells, endBy, needed};
 ghost use Rattle.areas.specs.Flags.{flagOfZero, flagAfter};
 
 // What an area holds.
@@ -44,10 +44,7 @@ pub fn is_readable(track: &[u16], a: Area) -> bool
 {
     let first = a.first as usize;
     let end = first + a.bytes as usize + 2;
-    if track.len() < end {
-        return false;
-    }
-    house_check::good(&track[first..end])
+    end <= track.len() && house_check::good(&track[first..end])
 }
 
 // The Unit Check row of an area that is not readable.
@@ -55,33 +52,29 @@ pub fn row_of(part: Part) -> Row
     ensures { λ r. ⌜ r ≡ rowOf part ⌝ }
 {
     match part {
-        Part::Home => Row::Unreadable,
         Part::Count => Row::UnreadableCount,
-        Part::Key => Row::Unreadable,
-        Part::Data => Row::Unreadable,
+        _ => Row::Unreadable,
     }
+}
+
+fn area_at(part: Part, first: u32, bytes: u32) -> Area
+    ensures { λ r. ⌜ r ≡ area part first bytes ⌝ }
+{
+    Area { part, first, bytes }
 }
 
 // The home address.
 pub fn home_area() -> Area
     ensures { λ r. ⌜ r ≡ homeArea ⌝ }
 {
-    Area {
-        part: Part::Home,
-        first: 0,
-        bytes: 5,
-    }
+    area_at(Part::Home, 0, 5)
 }
 
 // The count area at a cell.
 pub fn count_area(c: u16) -> Area
     ensures { λ r. ⌜ r ≡ countArea c ⌝ }
 {
-    Area {
-        part: Part::Count,
-        first: c as u32,
-        bytes: 9,
-    }
+    area_at(Part::Count, c as u32, 9)
 }
 
 // Two bytes of a track as one number.
@@ -122,41 +115,27 @@ pub fn read_count(track: &[u16], c: u16) -> CountRead
 fn key_cells(n: Counts) -> u32
     ensures { λ r. ⌜ (r ≡ keyCells n) × (r < 258) ⌝ }
 {
-    if n.kl == 0 {
-        return 0;
-    }
-    n.kl as u32 + 2
+    if n.kl == 0 { 0 } else { n.kl as u32 + 2 }
 }
 
 fn data_bytes(n: Counts) -> u32
     ensures { λ r. ⌜ (r ≡ dataBytes n) × (r < 65536) ⌝ }
 {
-    if n.dl == 0 {
-        return 1;
-    }
-    n.dl as u32
+    if n.dl == 0 { 1 } else { n.dl as u32 }
 }
 
 // The key area of the record whose count area is at a cell. It is absent if KL is 0.
 pub fn key_area(c: u16, n: Counts) -> Area
     ensures { λ r. ⌜ r ≡ keyArea c n ⌝ }
 {
-    Area {
-        part: Part::Key,
-        first: c as u32 + 11,
-        bytes: n.kl as u32,
-    }
+    area_at(Part::Key, c as u32 + 11, n.kl as u32)
 }
 
 // The data area of the record whose count area is at a cell.
 pub fn data_area(c: u16, n: Counts) -> Area
     ensures { λ r. ⌜ r ≡ dataArea c n ⌝ }
 {
-    Area {
-        part: Part::Data,
-        first: c as u32 + 11 + key_cells(n),
-        bytes: data_bytes(n),
-    }
+    area_at(Part::Data, c as u32 + 11 + key_cells(n), data_bytes(n))
 }
 
 // How many cells a record takes, its marker not counted.

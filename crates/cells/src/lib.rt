@@ -8,20 +8,14 @@ ghost use Rattle.cells.specs.Cells.{byteOf};
 pub fn byte_at(s: &[u8], at: usize) -> u8
     ensures { λ r. ⌜ r ≡ getD (now (s .entry)) at 0 ⌝ }
 {
-    if at < s.len() {
-        return s[at];
-    }
-    0
+    if at < s.len() { s[at] } else { 0 }
 }
 
 // The low byte of the cell at an index of a track, 0 past its end.
 pub fn low_at(t: &[u16], at: usize) -> u8
     ensures { λ r. ⌜ r ≡ byteOf (getD (now (t .entry)) at 0) ⌝ }
 {
-    if at < t.len() {
-        return (t[at] % 256) as u8;
-    }
-    0
+    if at < t.len() { (t[at] % 256) as u8 } else { 0 }
 }
 
 fn wide(b: u8) -> u32
@@ -48,8 +42,5 @@ pub fn triple(high: u8, middle: u8, low: u8) -> u32
 pub fn lesser(a: usize, b: usize) -> usize
     ensures { λ r. ⌜ r ≡ min a b ⌝ }
 {
-    if a <= b {
-        return a;
-    }
-    b
+    if a <= b { a } else { b }
 }

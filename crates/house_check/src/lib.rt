@@ -211,20 +211,14 @@ pub fn all_bytes(cells: &[u16]) -> bool
 fn clean(cells: &[u16]) -> bool
     ensures { λ r. ⌜ r ≡ both (allBytes (now (cells .entry))) (eqb (check (bytesOf (now (cells .entry)))) 0) ⌝ }
 {
-    if !all_bytes(cells) {
-        return false;
-    }
-    check_of(cells) == 0
+    all_bytes(cells) && check_of(cells) == 0
 }
 
 // Whether cells are an area that is good: its bytes and its check, all recorded, and the check agrees.
 pub fn good(cells: &[u16]) -> bool
     ensures { λ r. ⌜ r ≡ goodCells (length (now (cells .entry)) - checkBytes) (now (cells .entry)) ⌝ }
 {
-    if cells.len() < 2 {
-        return false;
-    }
-    clean(cells)
+    2 <= cells.len() && clean(cells)
 }
 
 // The remainder of each byte.

@@ -34,23 +34,14 @@ pub fn is_marker(track: &[u16], at: u16) -> bool
     ensures { λ r. ⌜ r ≡ markAt (now (track .entry)) at ⌝ }
 {
     let i = at as usize;
-    if i < 7 {
-        return false;
-    }
-    if track.len() <= i {
-        return false;
-    }
-    track[i] == MARKER
+    7 <= i && (i < track.len() && track[i] == MARKER)
 }
 
 // The first cell at or after a place that can hold a marker.
 fn from_seven(place: u16) -> u16
     ensures { λ r. ⌜ r ≡ max place 7 ⌝ }
 {
-    if place < 7 {
-        return 7;
-    }
-    place
+    if place < 7 { 7 } else { place }
 }
 
 // Whether none of some cells holds a marker. There is no early end, so that the compiler can look at eight cells at once.

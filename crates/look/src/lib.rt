@@ -104,16 +104,12 @@ fn look_part(track: &[u16], c: u16, part: Part) -> Look
 fn part_of(p: u8) -> Part
     ensures { λ r. ⌜ r ≡ partOf p ⌝ }
 {
-    if p == 0 {
-        return Part::Home;
+    match p {
+        0 => Part::Home,
+        1 => Part::Count,
+        2 => Part::Key,
+        _ => Part::Data,
     }
-    if p == 1 {
-        return Part::Count;
-    }
-    if p == 2 {
-        return Part::Key;
-    }
-    Part::Data
 }
 
 fn call_fits(cells: usize, c: u16, p: u8, numbers: usize) -> bool
@@ -122,16 +118,7 @@ fn call_fits(cells: usize, c: u16, p: u8, numbers: usize) -> bool
     if cells != 4096 {
         return false;
     }
-    if numbers != 2 {
-        return false;
-    }
-    if 3 < p {
-        return false;
-    }
-    if p == 0 {
-        return true;
-    }
-    c <= 4096
+    numbers == 2 && (p <= 3 && (p == 0 || c <= 4096))
 }
 
 // Writes where an area lies.

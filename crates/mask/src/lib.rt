@@ -20,10 +20,7 @@ pub enum Seeking {
 pub fn is_legal(mask: u8) -> bool
     ensures { λ r. ⌜ r ≡ legal mask ⌝ }
 {
-    if mask / 32 % 2 != 0 {
-        return false;
-    }
-    mask % 8 == 0
+    mask / 32 % 2 == 0 && mask % 8 == 0
 }
 
 // Whether a mask bars a write.

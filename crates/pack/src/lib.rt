@@ -26,10 +26,7 @@ pub enum Sought {
 fn from_one_to(most: u32, n: u32) -> bool
     ensures { λ r. ⌜ r ≡ from1To most n ⌝ }
 {
-    if n < 1 {
-        return false;
-    }
-    n <= most
+    1 <= n && n <= most
 }
 
 // How many cells the tracks of a pack have.
@@ -44,13 +41,7 @@ fn cells_on(g: Shape) -> usize
 pub fn pack_fits(g: Shape, count: usize) -> bool
     ensures { λ r. ⌜ r ≡ packFits g count ⌝ }
 {
-    if !from_one_to(203, g.cylinders) {
-        return false;
-    }
-    if !from_one_to(10, g.heads) {
-        return false;
-    }
-    count == cells_on(g)
+    from_one_to(203, g.cylinders) && (from_one_to(10, g.heads) && count == cells_on(g))
 }
 
 // Where Seek and Seek Cylinder go.

@@ -1,7 +1,6 @@
-// The rows of the Unit Check table: what each puts into sense, and how many bytes its command moved.
+// The rows of the Unit Check table: what each puts into sense.
 ghost use mathlib.Core.Path.{_≡_};
-ghost use Prim.Native.Nat.{min};
-ghost use Rattle.rows.specs.Rows.{sense, senseOf, movedBy};
+ghost use Rattle.rows.specs.Rows.{sense, senseOf};
 
 // A row of the table, in the table's order.
 pub enum Row {
@@ -49,26 +48,5 @@ pub fn sense_of(row: Row) -> Sense
         Row::NoRoom => of_bytes(0x00, 0x40),
         Row::NoMarker => of_bytes(0x00, 0x02),
         Row::SecondIndex => of_bytes(0x00, 0x08),
-    }
-}
-
-fn lesser(a: u16, b: u16) -> u16
-    ensures { λ r. ⌜ r ≡ min a b ⌝ }
-{
-    if a <= b {
-        return a;
-    }
-    b
-}
-
-// How many bytes a command with this count moved when it ended in this row.
-pub fn moved_by(row: Row, count: u16) -> u16
-    ensures { λ r. ⌜ r ≡ movedBy row count ⌝ }
-{
-    match row {
-        Row::BadMask => 1,
-        Row::BadSeek => lesser(count, 6),
-        Row::NoRoom => lesser(count, 8),
-        _ => 0,
     }
 }

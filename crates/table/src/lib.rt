@@ -2,12 +2,17 @@
 use mask::Seeking;
 use mask::Writing;
 ghost use mathlib.Core.Path.{_≡_};
-ghost use Rattle.table.specs.Table.{quiet, control, seek, search, read, write, count, countKey, selects, leaves, excepts};
+ghost use mathlib.Core.Bool.{true, false};
+ghost use Rattle.table.specs.Table.{seek, search, read, write, count, countKey, selects, leaves, accepts, excepts};
 ghost use Rattle.table.specs.Table.{searches, reads, writes, unknown, find, ruleOf, looks, servesData, servesKey, isHome};
 ghost use Rattle.mask.specs.declared.Writing.the-variants as Writing;
-ghost use Rattle.table.specs.declared.Aim.the-variants as Aim;
-ghost use Rattle.table.specs.declared.Serves.the-variants as Serves;
+ghost use Rattle.table.specs.declared.Licence.the-variants as Licence;
+ghost use Rattle.table.specs.declared.Bar.the-variants as Bar;
+ghost use Rattle.table.specs.declared.Act.the-variants as Act;
 ghost use Rattle.table.specs.declared.Write.the-variants as Write;
+ghost use Rattle.table.specs.declared.Aim.the-variants as Aim;
+ghost use Rattle.table.specs.declared.Names.the-variants as Names;
+ghost use Rattle.table.specs.declared.Serves.the-variants as Serves;
 
 // What satisfies a search: equal, the track's higher, or either.
 pub enum How {
@@ -16,18 +21,14 @@ pub enum How {
     IfEqualOrHigh,
 }
 
-// Which command must come before.
+// Which command must come before: any; a search or a read; Write HA, or Search HA equal over its field; Write R0, Write Count Key Data, or 31 or 29
+// equal over their field; 31 or 29 equal so; 31 equal so.
 pub enum Licence {
     Any,
-    // A search or a read.
     Look,
-    // Write HA, or Search HA equal over its field.
     HomeAddress,
-    // Write R0, Write Count Key Data, or 31 or 29 equal over their field.
     Record,
-    // 31 or 29 equal so.
     EqualIdOrKey,
-    // 31 equal so.
     EqualId,
 }
 
@@ -38,22 +39,16 @@ pub enum Bar {
     Writes(Writing),
 }
 
-// Which record it takes.
+// Which record it takes: none, the head stays; the home address, or R0, at the index point; the next by Search ID's rule; the next; the record
+// selected, if the command before serves Read Data, or else the next; so, if it serves Read Key and Data and searches by key; the record selected.
 pub enum Aim {
-    // None: the head stays.
     Stays,
-    // The home address, or R0, at the index point.
     HomeAddress,
     R0,
-    // The next record by Search ID's rule.
     NextId,
-    // The next record.
     Next,
-    // The record selected, if the command before serves Read Data, or else the next.
     NextForData,
-    // The record selected, if it serves Read Key and Data and searches by key, or else the next.
     NextForKey,
-    // The record selected.
     Selected,
 }
 
@@ -80,74 +75,47 @@ pub enum Control {
     SpaceRecord,
 }
 
+// The last one writes data, with the key or not.
 pub enum Write {
     HomeAddress,
     R0,
     CountKeyData,
-    // Data, with the key or not.
     Update(bool),
 }
 
-// What it does with what it has read.
+// What it does with what it has read: a search compares it with the bytes sent; a read gives its bytes, of a count 8 or none.
 pub enum Act {
     Control(Control),
-    // It compares what it has read with the bytes sent.
     Search(How),
-    // It gives the bytes of what it has read, of a count its 8 bytes or none.
     Read(bool),
     Write(Write),
 }
 
-// A row of the table.
+// A row of the table. It may leave its record selected; DL = 0 may be Unit Exception; it may clear sense first.
 pub struct Rule {
     pub licence: Licence,
     pub bar: Bar,
     pub aim: Aim,
     pub names: Names,
     pub act: Act,
-    // It leaves its record selected.
     pub selects: bool,
     pub serves: Serves,
-    // DL = 0 is Unit Exception.
     pub excepts: bool,
-    // It clears sense first.
     pub clears: bool,
 }
 
-// The record is left selected.
+// The record is left selected, or is not; DL = 0 is Unit Exception, or may be.
 const SELECTS: bool = true;
 
 const LEAVES: bool = false;
 
-// DL = 0 is Unit Exception.
 const EXCEPTS: bool = true;
 
 const ACCEPTS: bool = false;
 
-// A count's 8 bytes move.
-const COUNTED: bool = true;
-
-const BARE: bool = false;
-
-// A row that leaves sense as it is.
-fn quiet_row(a: Control) -> Rule
-    ensures { λ r. ⌜ r ≡ quiet a ⌝ }
-{
-    Rule {
-        licence: Licence::Any,
-        bar: Bar::Nothing,
-        aim: Aim::Stays,
-        names: Names::Nothing,
-        act: Act::Control(a),
-        selects: LEAVES,
-        serves: Serves::Nobody,
-        excepts: ACCEPTS,
-        clears: false,
-    }
-}
-
-fn control_row(l: Licence, b: Bar, a: Control) -> Rule
-    ensures { λ r. ⌜ r ≡ control l b a ⌝ }
+// Control: sense is cleared first, or is not.
+fn control_row(l: Licence, b: Bar, a: Control, clears: bool) -> Rule
+    ensures { λ r. ⌜ r ≡ record { licence = l; bar = b; aim = Aim.Stays; names = Names.Nothing; act = Act.Control a; selects = leaves; serves = Serves.Nobody; excepts = accepts; clears = clears } ⌝ }
 {
     Rule {
         licence: l,
@@ -158,43 +126,45 @@ fn control_row(l: Licence, b: Bar, a: Control) -> Rule
         selects: LEAVES,
         serves: Serves::Nobody,
         excepts: ACCEPTS,
-        clears: true,
+        clears,
     }
 }
 
 fn seek_row(k: Seeking) -> Rule
     ensures { λ r. ⌜ r ≡ seek k ⌝ }
 {
-    control_row(Licence::Any, Bar::Seeks(k), Control::Seek(k))
+    control_row(Licence::Any, Bar::Seeks(k), Control::Seek(k), true)
 }
 
-fn search_row(a: Aim, n: Names, s: bool, v: Serves, h: How) -> Rule
-    ensures { λ r. ⌜ r ≡ search a n s v h ⌝ }
+// A search or a read that leaves its record selected: its count is read, with the key or not.
+fn selecting_row(a: Aim, key: bool, act: Act, v: Serves) -> Rule
+    ensures { λ r. ⌜ r ≡ record { licence = Licence.Any; bar = Bar.Nothing; aim = a; names = Names.Count key false; act = act; selects = selects; serves = v; excepts = accepts; clears = true } ⌝ }
 {
     Rule {
         licence: Licence::Any,
         bar: Bar::Nothing,
         aim: a,
-        names: n,
-        act: Act::Search(h),
-        selects: s,
+        names: Names::Count(key, false),
+        act,
+        selects: SELECTS,
         serves: v,
         excepts: ACCEPTS,
         clears: true,
     }
 }
 
-fn read_row(a: Aim, n: Names, c: bool, s: bool, v: Serves, x: bool) -> Rule
-    ensures { λ r. ⌜ r ≡ read a n c s v x ⌝ }
+// A search or a read that does not.
+fn leaving_row(a: Aim, n: Names, act: Act, x: bool) -> Rule
+    ensures { λ r. ⌜ r ≡ record { licence = Licence.Any; bar = Bar.Nothing; aim = a; names = n; act = act; selects = leaves; serves = Serves.Nobody; excepts = x; clears = true } ⌝ }
 {
     Rule {
         licence: Licence::Any,
         bar: Bar::Nothing,
         aim: a,
         names: n,
-        act: Act::Read(c),
-        selects: s,
-        serves: v,
+        act,
+        selects: LEAVES,
+        serves: Serves::Nobody,
         excepts: x,
         clears: true,
     }
@@ -264,41 +234,34 @@ fn write_of(code: u8) -> Rule
         ),
         0x05 => update_row(Licence::EqualIdOrKey, false),
         0x0D => update_row(Licence::EqualId, true),
-        _ => control_row(Licence::Any, Bar::Nothing, Control::Unknown),
+        _ => control_row(Licence::Any, Bar::Nothing, Control::Unknown, true),
     }
 }
 
-// A read of a record's data: it selects nothing, and DL = 0 is Unit Exception.
-fn data_row(a: Aim, n: Names, c: bool) -> Rule
-    ensures { λ r. ⌜ r ≡ read a n c leaves Serves.Nobody excepts ⌝ }
+// A search or a read of the home address.
+fn home_row(act: Act) -> Rule
+    ensures { λ r. ⌜ r ≡ record { licence = Licence.Any; bar = Bar.Nothing; aim = Aim.HomeAddress; names = Names.HomeAddress; act = act; selects = leaves; serves = Serves.Nobody; excepts = accepts; clears = true } ⌝ }
 {
-    read_row(a, n, c, LEAVES, Serves::Nobody, EXCEPTS)
+    leaving_row(Aim::HomeAddress, Names::HomeAddress, act, ACCEPTS)
+}
+
+// A read of a record's data, with the key or not; a count's 8 bytes move, or do not.
+fn data_row(a: Aim, key: bool, counted: bool) -> Rule
+    ensures { λ r. ⌜ r ≡ read a (Names.Count key true) counted leaves Serves.Nobody excepts ⌝ }
+{
+    leaving_row(a, Names::Count(key, true), Act::Read(counted), EXCEPTS)
 }
 
 fn read_of(code: u8) -> Rule
     ensures { λ r. ⌜ r ≡ find code reads (find code writes unknown) ⌝ }
 {
     match code {
-        0x1A => read_row(
-            Aim::HomeAddress,
-            Names::HomeAddress,
-            BARE,
-            LEAVES,
-            Serves::Nobody,
-            ACCEPTS,
-        ),
-        0x16 => data_row(Aim::R0, Names::Count(true, true), COUNTED),
-        0x12 => read_row(
-            Aim::Next,
-            Names::Count(false, false),
-            COUNTED,
-            SELECTS,
-            Serves::DataAndKey,
-            ACCEPTS,
-        ),
-        0x06 => data_row(Aim::NextForData, Names::Count(false, true), BARE),
-        0x0E => data_row(Aim::NextForKey, Names::Count(true, true), BARE),
-        0x1E => data_row(Aim::Next, Names::Count(true, true), COUNTED),
+        0x1A => home_row(Act::Read(false)),
+        0x16 => data_row(Aim::R0, true, true),
+        0x12 => selecting_row(Aim::Next, false, Act::Read(true), Serves::DataAndKey),
+        0x06 => data_row(Aim::NextForData, false, false),
+        0x0E => data_row(Aim::NextForKey, true, false),
+        0x1E => data_row(Aim::Next, true, true),
         _ => write_of(code),
     }
 }
@@ -306,38 +269,20 @@ fn read_of(code: u8) -> Rule
 fn search_id_row(h: How) -> Rule
     ensures { λ r. ⌜ r ≡ search Aim.NextId count selects Serves.DataAndKey h ⌝ }
 {
-    search_row(
-        Aim::NextId,
-        Names::Count(false, false),
-        SELECTS,
-        Serves::DataAndKey,
-        h,
-    )
+    selecting_row(Aim::NextId, false, Act::Search(h), Serves::DataAndKey)
 }
 
 fn search_key_row(h: How) -> Rule
     ensures { λ r. ⌜ r ≡ search Aim.NextForKey countKey selects Serves.Data h ⌝ }
 {
-    search_row(
-        Aim::NextForKey,
-        Names::Count(true, false),
-        SELECTS,
-        Serves::Data,
-        h,
-    )
+    selecting_row(Aim::NextForKey, true, Act::Search(h), Serves::Data)
 }
 
 fn search_of(code: u8) -> Rule
     ensures { λ r. ⌜ r ≡ find code searches (find code reads (find code writes unknown)) ⌝ }
 {
     match code {
-        0x39 => search_row(
-            Aim::HomeAddress,
-            Names::HomeAddress,
-            LEAVES,
-            Serves::Nobody,
-            How::IfEqual,
-        ),
+        0x39 => home_row(Act::Search(How::IfEqual)),
         0x31 => search_id_row(How::IfEqual),
         0x51 => search_id_row(How::IfHigh),
         0x71 => search_id_row(How::IfEqualOrHigh),
@@ -353,13 +298,13 @@ pub fn rule_of(code: u8) -> Rule
     ensures { λ r. ⌜ r ≡ ruleOf code ⌝ }
 {
     match code {
-        0x03 => quiet_row(Control::NoOp),
-        0x04 => quiet_row(Control::Sense),
+        0x03 => control_row(Licence::Any, Bar::Nothing, Control::NoOp, false),
+        0x04 => control_row(Licence::Any, Bar::Nothing, Control::Sense, false),
         0x07 => seek_row(Seeking::Seek),
         0x0B => seek_row(Seeking::SeekCylinder),
         0x1B => seek_row(Seeking::SeekHead),
-        0x1F => control_row(Licence::Any, Bar::Nothing, Control::SetMask),
-        0x0F => control_row(Licence::Look, Bar::Nothing, Control::SpaceRecord),
+        0x1F => control_row(Licence::Any, Bar::Nothing, Control::SetMask, true),
+        0x0F => control_row(Licence::Look, Bar::Nothing, Control::SpaceRecord, true),
         _ => search_of(code),
     }
 }
@@ -369,10 +314,9 @@ pub fn is_look(a: Act) -> bool
     ensures { λ r. ⌜ r ≡ looks a ⌝ }
 {
     match a {
-        Act::Control(_) => false,
         Act::Search(_) => true,
         Act::Read(_) => true,
-        Act::Write(_) => false,
+        _ => false,
     }
 }
 
@@ -380,11 +324,7 @@ pub fn is_look(a: Act) -> bool
 pub fn serves_data(s: Serves) -> bool
     ensures { λ r. ⌜ r ≡ servesData s ⌝ }
 {
-    match s {
-        Serves::Nobody => false,
-        Serves::Data => true,
-        Serves::DataAndKey => true,
-    }
+    if let Serves::Nobody = s { false } else { true }
 }
 
 // Whether Read Key and Data and the searches by key take it.
@@ -392,9 +332,8 @@ pub fn serves_key(s: Serves) -> bool
     ensures { λ r. ⌜ r ≡ servesKey s ⌝ }
 {
     match s {
-        Serves::Nobody => false,
-        Serves::Data => false,
         Serves::DataAndKey => true,
+        _ => false,
     }
 }
 
@@ -403,13 +342,7 @@ pub fn is_home(a: Aim) -> bool
     ensures { λ r. ⌜ r ≡ isHome a ⌝ }
 {
     match a {
-        Aim::Stays => false,
         Aim::HomeAddress => true,
-        Aim::R0 => false,
-        Aim::NextId => false,
-        Aim::Next => false,
-        Aim::NextForData => false,
-        Aim::NextForKey => false,
-        Aim::Selected => false,
+        _ => false,
     }
 }

@@ -3,6 +3,7 @@
 use Prim.Native.Nat.{_+_, _-_}
 use mathlib.Core.Path.{sym, _∙_}
 use native.Mathlib.Omega.{arith}
+use borrow.Author.Tests.{lt-leb}
 use Rattle.areas.proofs.Laws.{off-track, on-track}
 use borrow.Author.Needs.{needs}
 use Rattle.areas.proofs.is_readable.Statement.{statement}
@@ -20,9 +21,6 @@ add-end c = search needs
 add-end-2 : tie.Need-add-end-2
 add-end-2 c = search needs
 
-returns : tie.Need-returns
-returns c = sym (off-track _ _ (c .if1 .taken))
-
 mul-good : tie.Need-mul-good
 mul-good c = search needs
 
@@ -38,10 +36,13 @@ part-good-end c = search needs
 good-requires : tie.Need-good-requires
 good-requires c κs = search needs
 
-returns-2 : tie.Need-returns-2
-returns-2 c =
+returns : tie.Need-returns
+returns c =
     let x = c .before .before .before .before .before .before .args in
     c .good2 .ensures ∙ on-track (x .track .now) (x .a) (x .a .first + x .a .bytes + 2 - x .a .first) (omega arith) (omega arith)
+
+returns-2 : tie.Need-returns-2
+returns-2 c = lt-leb _ _ (c .if1 .left) ∙ sym (off-track _ _ (c .if1 .left))
 
 pub is-readable-spec : {M : Type 1} → statement M
 is-readable-spec =
@@ -51,10 +52,10 @@ is-readable-spec =
     cast-end
     add-end
     add-end-2
-    returns
     mul-good
     sub-good
     part-good-start
     part-good-end
     good-requires
+    returns
     returns-2)

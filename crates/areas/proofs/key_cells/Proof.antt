@@ -19,4 +19,4 @@ returns-2 : tie.Need-returns-2
 returns-2 c = (sym (some-key _ (c .before .if1 .left)), omega arith)
 
 pub key-cells-spec : {M : Type 1} → statement M
-key-cells-spec = tie.close (tie.spec returns cast-result add-result returns-2)
+key-cells-spec = tie.close (tie.spec cast-result add-result returns returns-2)

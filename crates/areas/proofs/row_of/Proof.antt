@@ -1,38 +1,30 @@
--- `areas::row_of` meets its contract, row by row. Assumes nothing.
+-- `areas::row_of` meets its contract: a count area has a row of its own, and the others one row. Assumes nothing.
+use mathlib.Core.Path.{_≡_, refl}
+use mathlib.Core.List.{[], _∷_}
+use types.Run.{OneOf, miss}
+use denote.Enum.Declared.{tagOf}
+use Rattle.rows.specs.declared.Row.the-variants.{Unreadable}
+use Rattle.areas.specs.declared.Part.{Part}
+use Rattle.areas.specs.declared.Part.the-variants.{Home, Count, Key, Data}
+use Rattle.areas.proofs.Part.{the-type}
 use Rattle.areas.specs.Areas.{rowOf}
 use borrow.Author.Needs.{needs}
 use Rattle.areas.proofs.row_of.Statement.{statement}
 use Rattle.areas.proofs.row_of.Tie as tie
 
-enum-told : tie.Need-enum-told
-enum-told c = search needs
-
-enum-told-2 : tie.Need-enum-told-2
-enum-told-2 c = search needs
-
-enum-told-3 : tie.Need-enum-told-3
-enum-told-3 c = search needs
-
-enum-told-4 : tie.Need-enum-told-4
-enum-told-4 c = search needs
+others : (p : Part) → OneOf (0 ∷ 2 ∷ 3 ∷ []) (tagOf the-type p) → Unreadable ≡ rowOf p
+unfolding rowOf
+others Home k = refl
+others Count k = absurd (miss (0 ∷ 2 ∷ 3 ∷ []) 1 tt k)
+others Key k = refl
+others Data k = refl
 
 returns : tie.Need-returns
 unfolding rowOf
-returns c = search needs
+returns c = rw (c .enum-told .given .1)
 
 returns-2 : tie.Need-returns-2
-unfolding rowOf
-returns-2 c = search needs
-
-returns-3 : tie.Need-returns-3
-unfolding rowOf
-returns-3 c = search needs
-
-returns-4 : tie.Need-returns-4
-unfolding rowOf
-returns-4 c = search needs
+returns-2 c = others _ (c .match .keys2)
 
 pub row-of-spec : {M : Type 1} → statement M
-row-of-spec =
-    tie.close
-    (tie.spec enum-told enum-told-2 enum-told-3 enum-told-4 returns returns-2 returns-3 returns-4)
+row-of-spec = tie.close (tie.spec (λ c. search needs) returns returns-2)

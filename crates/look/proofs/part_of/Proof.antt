@@ -1,4 +1,4 @@
--- It makes the model's tests, in the model's order. Assumes nothing.
+-- Each arm knows its number; the last knows that the number is none of these. Assumes nothing.
 use Rattle.cells.proofs.Tests.{tests}
 use Rattle.look.specs.Look.{partOf}
 use Rattle.look.proofs.part_of.Statement.{statement}
@@ -6,15 +6,15 @@ use Rattle.look.proofs.part_of.Tie as tie
 
 returns : tie.Need-returns
 unfolding partOf
-returns c = search tests
+returns c = rw (c .match .keys1)
 
 returns-2 : tie.Need-returns-2
 unfolding partOf
-returns-2 c = search tests
+returns-2 c = rw (c .match .keys2)
 
 returns-3 : tie.Need-returns-3
 unfolding partOf
-returns-3 c = search tests
+returns-3 c = rw (c .match .keys3)
 
 returns-4 : tie.Need-returns-4
 unfolding partOf

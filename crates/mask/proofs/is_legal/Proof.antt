@@ -6,11 +6,11 @@ use Rattle.mask.proofs.is_legal.Tie as tie
 
 returns : tie.Need-returns
 unfolding legal
-returns c = rw (ne-eqb _ _ (c .if1 .taken))
+returns c = rw (eq-eqb _ _ (c .if1 .taken))
 
 returns-2 : tie.Need-returns-2
 unfolding legal
-returns-2 c = rw (eq-eqb _ _ (c .if1 .left))
+returns-2 c = rw (ne-eqb _ _ (c .if1 .left))
 
 pub is-legal-spec : {M : Type 1} → statement M
 is-legal-spec = tie.close (tie.spec returns returns-2)

@@ -7,7 +7,7 @@ use Rattle.table.proofs.read_of.Tie as tie
 
 returns : tie.Need-returns
 unfolding find reads
-returns c = rw (c .before .match .keys1) (c .read-row .ensures)
+returns c = rw (c .before .match .keys1) (c .home-row .ensures)
 
 returns-2 : tie.Need-returns-2
 unfolding find reads
@@ -15,7 +15,7 @@ returns-2 c = rw (c .before .match .keys2) (c .data-row .ensures)
 
 returns-3 : tie.Need-returns-3
 unfolding find reads
-returns-3 c = rw (c .before .match .keys3) (c .read-row2 .ensures)
+returns-3 c = rw (c .before .match .keys3) (c .selecting-row .ensures)
 
 returns-4 : tie.Need-returns-4
 unfolding find reads

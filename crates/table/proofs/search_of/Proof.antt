@@ -7,7 +7,7 @@ use Rattle.table.proofs.search_of.Tie as tie
 
 returns : tie.Need-returns
 unfolding find searches
-returns c = rw (c .before .match .keys1) (c .search-row .ensures)
+returns c = rw (c .before .match .keys1) (c .home-row .ensures)
 
 returns-2 : tie.Need-returns-2
 unfolding find searches
