@@ -42,7 +42,8 @@ use Rattle.command.specs.Command.{SelectedOn}
 use Rattle.table.specs.declared.Act.{Act}
 use Rattle.table.specs.declared.Act.the-variants as Act
 use Rattle.table.specs.Table.{ruleOf}
-use Rattle.turn.specs.Turn.{Lies, Piece, given, movingOf, wants, Turn, toldOf, rowTakes, isCheck, checks}
+use Rattle.turn.specs.Turn.{Lies, Piece, given, movingOf, wants, Turn, toldOf, isCheck, checks}
+use Rattle.rows.specs.Rows.{rowTakes}
 use Rattle.frame.specs.Frame.{laysCells}
 use Rattle.frame.proofs.Turns.{only-writes-lay}
 use Rattle.channel.specs.Channel.{fetched, placed, moved, moves, lengthCounts, wrongLength, goesOn, heldAfter, statusAfter, withStatus, storageAfter}

@@ -32,7 +32,8 @@ use Rattle.table.specs.declared.Act.{Act}
 use Rattle.table.specs.declared.Act.the-variants as Act
 use Rattle.table.specs.declared.Rule.{Rule}
 use Rattle.table.specs.Table.{ruleOf}
-use Rattle.turn.specs.Turn.{Tracks, movingOf, wants, rowTakes, Turn, toldOf, checks}
+use Rattle.turn.specs.Turn.{Tracks, movingOf, wants, Turn, toldOf, checks}
+use Rattle.rows.specs.Rows.{rowTakes}
 use Rattle.command.specs.declared.Task.{Task}
 use Rattle.command.specs.declared.Plan.{Plan}
 use Rattle.command.specs.declared.Plan.the-variants.{Refuses, Works}

@@ -10,7 +10,7 @@ use Rattle.turn.specs.Turn.{sensing}
 use Rattle.turn.specs.declared.Moving.{Moving}
 use Rattle.turn.specs.declared.Moving.the-variants as Moving
 use Rattle.turn.specs.declared.Told.{Told}
-use Rattle.turn.specs.Turn.{rowTakes}
+use Rattle.rows.specs.Rows.{rowTakes}
 use Rattle.command.specs.declared.Task.{Task}
 use Rattle.command.specs.declared.Job.{Job}
 use Rattle.command.specs.Command.{standsAfter, ordersAfter}

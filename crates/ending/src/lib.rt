@@ -9,7 +9,6 @@ use turn::Ending;
 use turn::Moving;
 use turn::Told;
 ghost use mathlib.Core.Path.{_≡_};
-ghost use Rattle.turn.specs.Turn.{rowTakes};
 ghost use Rattle.command.specs.Command.{senseAfter, standsAfter, ordersAfter};
 ghost use Rattle.ending.specs.Ending.{endedAt, failedAt};
 
@@ -77,18 +76,6 @@ pub fn ended(j: Job, ending: Ending, moving: Moving, whole: bool) -> Told
     ended_at(j, task, ending, moving, whole)
 }
 
-// How many bytes a command takes before a row shows.
-pub fn row_takes(row: Row) -> u32
-    ensures { λ r. ⌜ r ≡ rowTakes row ⌝ }
-{
-    match row {
-        Row::BadMask => 1,
-        Row::BadSeek => 6,
-        Row::NoRoom => 8,
-        _ => 0,
-    }
-}
-
 // Unit Check for a row of the table.
 pub fn failed(s: Stands, o: Orders, row: Row) -> Told
     ensures { λ r. ⌜ r ≡ failedAt s o row ⌝ }
@@ -98,7 +85,7 @@ pub fn failed(s: Stands, o: Orders, row: Row) -> Told
     let head = s.head;
     Told {
         ending: Ending::Check(row),
-        moving: Moving::Takes(row_takes(row)),
+        moving: Moving::Takes(rows::row_takes(row)),
         stands: Stands {
             cylinder,
             head,

@@ -1,5 +1,5 @@
--- Document 01, "Channel words", the Unit Check table, row by row: sense bytes 0 and 1, and the bytes moved. Assumes nothing.
-use Prim.Native.Nat.{ℕ, min}
+-- Document 01, "Channel words", the Unit Check table, row by row: sense bytes 0 and 1, and the bytes taken.
+use Prim.Native.Nat.{ℕ}
 use Rattle.rows.specs.declared.Row.{Row}
 use Rattle.rows.specs.declared.Row.the-variants.{UnknownCode, BadMask, SecondMask, WrongBefore, SeekBarred, WriteBarred, BadSeek, Unreadable, UnreadableCount, NoRoom, NoMarker, SecondIndex}
 use Rattle.rows.specs.declared.Sense.{Sense}
@@ -22,17 +22,17 @@ senseOf NoRoom = sense 0x00 0x40
 senseOf NoMarker = sense 0x00 0x02
 senseOf SecondIndex = sense 0x00 0x08
 
--- of a command whose count is n
-unfoldable pub movedBy : Row → ℕ → ℕ
-movedBy UnknownCode n = 0
-movedBy BadMask n = 1
-movedBy SecondMask n = 0
-movedBy WrongBefore n = 0
-movedBy SeekBarred n = 0
-movedBy WriteBarred n = 0
-movedBy BadSeek n = min n 6
-movedBy Unreadable n = 0
-movedBy UnreadableCount n = 0
-movedBy NoRoom n = min n 8
-movedBy NoMarker n = 0
-movedBy SecondIndex n = 0
+-- bytes that a command takes of those sent before the row shows: the column "Bytes moved" is the lesser of this and the count
+unfoldable pub rowTakes : Row → ℕ
+rowTakes UnknownCode = 0
+rowTakes BadMask = 1
+rowTakes SecondMask = 0
+rowTakes WrongBefore = 0
+rowTakes SeekBarred = 0
+rowTakes WriteBarred = 0
+rowTakes BadSeek = 6
+rowTakes Unreadable = 0
+rowTakes UnreadableCount = 0
+rowTakes NoRoom = 8
+rowTakes NoMarker = 0
+rowTakes SecondIndex = 0

@@ -1,6 +1,6 @@
-// The rows of the Unit Check table: what each puts into sense.
+// The rows of the Unit Check table: what each puts into sense, and how many bytes its command takes first.
 ghost use mathlib.Core.Path.{_≡_};
-ghost use Rattle.rows.specs.Rows.{sense, senseOf};
+ghost use Rattle.rows.specs.Rows.{sense, senseOf, rowTakes};
 
 // A row of the table, in the table's order.
 pub enum Row {
@@ -48,5 +48,17 @@ pub fn sense_of(row: Row) -> Sense
         Row::NoRoom => of_bytes(0x00, 0x40),
         Row::NoMarker => of_bytes(0x00, 0x02),
         Row::SecondIndex => of_bytes(0x00, 0x08),
+    }
+}
+
+// How many bytes a command takes before a row shows.
+pub fn row_takes(row: Row) -> u32
+    ensures { λ r. ⌜ r ≡ rowTakes row ⌝ }
+{
+    match row {
+        Row::BadMask => 1,
+        Row::BadSeek => 6,
+        Row::NoRoom => 8,
+        _ => 0,
     }
 }

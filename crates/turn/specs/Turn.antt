@@ -6,9 +6,8 @@ use mathlib.Core.List.{List, [], _∷_}
 use lib.ListN.{length, take, drop}
 use Rattle.cells.specs.Bytes.{overlay}
 use Rattle.rows.specs.declared.Row.{Row}
-use Rattle.rows.specs.declared.Row.the-variants.{UnknownCode, BadMask, SecondMask, WrongBefore, SeekBarred, WriteBarred, BadSeek, Unreadable, UnreadableCount, NoRoom, NoMarker, SecondIndex}
 use Rattle.rows.specs.declared.Sense.{Sense}
-use Rattle.rows.specs.Rows.{sense, senseOf}
+use Rattle.rows.specs.Rows.{sense, senseOf, rowTakes}
 use Rattle.areas.specs.declared.Area.{Area}
 use Rattle.pack.specs.declared.Cylinder.{Cylinder}
 use Rattle.pack.specs.declared.Head.{Head}
@@ -119,21 +118,6 @@ unfoldable pub after : Orders → ℕ → Bool → ℕ → Selection → Orders
 after o code whole tally selection = ordered (o .mask) (o .«mask_set») code whole tally selection
 
 -- ---- Unit Check: no cell is laid, the place stands, and sense says the row
-
--- the bytes that it takes of those sent before the row shows: document 01's "bytes moved" is the lesser of this and the count
-unfoldable pub rowTakes : Row → ℕ
-rowTakes UnknownCode = 0
-rowTakes BadMask = 1
-rowTakes SecondMask = 0
-rowTakes WrongBefore = 0
-rowTakes SeekBarred = 0
-rowTakes WriteBarred = 0
-rowTakes BadSeek = 6
-rowTakes Unreadable = 0
-rowTakes UnreadableCount = 0
-rowTakes NoRoom = 8
-rowTakes NoMarker = 0
-rowTakes SecondIndex = 0
 
 unfoldable pub isCheck : Ending → Bool
 isCheck Normal = false

@@ -4,13 +4,13 @@ use mathlib.Core.Path.{_≡_, refl}
 use mathlib.Core.List.{List, [], _∷_}
 use types.Run.{OneOf, miss}
 use denote.Enum.Declared.{tagOf}
 use Rattle.rows.specs.declared.Row.{Row}
 use Rattle.rows.specs.declared.Row.the-variants.{UnknownCode, BadMask, SecondMask, WrongBefore, SeekBarred, WriteBarred, BadSeek, Unreadable, UnreadableCount, NoRoom, NoMarker, SecondIndex}
 use Rattle.rows.proofs.Row.{the-type}
-use Rattle.turn.specs.Turn.{rowTakes}
+use Rattle.rows.specs.Rows.{rowTakes}
 use borrow.Author.Needs.{needs}
-use Rattle.ending.proofs.row_takes.Statement.{statement}
-use Rattle.ending.proofs.row_takes.Tie as tie
+use Rattle.rows.proofs.row_takes.Statement.{statement}
+use Rattle.rows.proofs.row_takes.Tie as tie
 
 -- the rows that take nothing, by their places in the table
 abbrev quiet : List ℕ
