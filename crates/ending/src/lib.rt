@@ -10,7 +10,7 @@ use turn::Moving;
 use turn::Told;
 ghost use mathlib.Core.Path.{_≡_};
 ghost use Rattle.turn.specs.Turn.{rowTakes};
-ghost use Rattle.command.specs.Command.{senseAfter, standsAfter, ordersAfter};
+ghost use Rattle.command.specs.Command.{endingOf, senseAfter, standsAfter, ordersAfter};
 ghost use Rattle.ending.specs.Ending.{endedAt, failedAt};
 
 // Commands but Sense and No-op clear sense first.
@@ -75,6 +75,18 @@ pub fn ended(j: Job, ending: Ending, moving: Moving, whole: bool) -> Told
 {
     let task = j.task;
     ended_at(j, task, ending, moving, whole)
+}
+
+// DL = 0 is Unit Exception, where the row says so.
+pub fn ending_of(j: Job) -> Ending
+    ensures { λ r. ⌜ r ≡ endingOf j ⌝ }
+{
+    if j.rule.excepts {
+        if j.counts.dl == 0 {
+            return Ending::Exception;
+        }
+    }
+    Ending::Normal
 }
 
 // How many bytes a command takes before a row shows.
