@@ -89,8 +89,5 @@ pub fn is_recorded(track: &[u16], a: Area) -> bool
 {
     let first = a.first as usize;
     let end = first + a.bytes as usize + 2;
-    if track.len() < end {
-        return false;
-    }
-    house_check::all_bytes(&track[first..end])
+    end <= track.len() && house_check::all_bytes(&track[first..end])
 }

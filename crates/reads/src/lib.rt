@@ -2,19 +2,24 @@
 use areas::Counts;
 use command::Job;
 use table::Names;
-use turn::Ending;
 use turn::Moving;
 use turn::Told;
 ghost use mathlib.Core.Path.{_≡_};
 ghost use mathlib.Core.List.{List};
-ghost use Prim.Native.Nat.{ℕ, _+_, _≤_, min};
+ghost use Prim.Native.Nat.{ℕ, _+_, _≤_};
 ghost use lib.ListN.{length};
 ghost use Rattle.cells.specs.Choice.{pick};
 ghost use Rattle.cells.specs.Bytes.{overlay, part};
 ghost use Rattle.cells.specs.Cells.{bytesOf};
+<<<<<<< HEAD
 ghost use Rattle.turn.specs.Turn.{alone, filled, given};
 ghost use Rattle.command.specs.Command.{Sighted, sight, endingOf, gives};
 ghost use Rattle.reads.specs.Inside.{LieIf, LieAll, Puts, recordGiven, manyGiven, readTold};
+=======
+ghost use Rattle.turn.specs.Turn.{Tracks, alone, filled, given, toldOf};
+ghost use Rattle.command.specs.Command.{Sighted, sight, gives};
+ghost use Rattle.reads.specs.Inside.{LieIf, LieAll, Puts, recordGiven, manyGiven};
+>>>>>>> h-short
 
 const HOME_BYTES: u16 = 5;
 
@@ -29,23 +34,11 @@ struct Rest {
     from: usize,
 }
 
-fn lesser(a: usize, b: usize) -> usize
-    ensures { λ r. ⌜ r ≡ min a b ⌝ }
-{
-    if a < b {
-        return a;
-    }
-    b
-}
-
 // How many bytes of a part move, if it is named.
 fn bytes_if(named: bool, n: u16) -> u16
     ensures { λ r. ⌜ r ≡ pick named n 0 ⌝ }
 {
-    if named {
-        return n;
-    }
-    0
+    if named { n } else { 0 }
 }
 
 // The bytes of so many cells of the track.
@@ -66,8 +59,8 @@ fn put(track: &[u16], first: u32, n: u16, r: Rest, into: &mut [u8]) -> Rest
     ensures { λ x. ⌜ Puts (now (into .entry)) r (bytesOf (part (now (track .entry)) first n)) (now (into .exit)) x ⌝ }
 {
     let at = r.at;
-    let skip = lesser(r.from, n as usize);
-    let m = lesser(n as usize - skip, into.len() - at);
+    let skip = cells::lesser(r.from, n as usize);
+    let m = cells::lesser(n as usize - skip, into.len() - at);
     put_cells(track, first as usize + skip, into, at, m);
     Rest {
         at: at + m,
@@ -139,23 +132,11 @@ fn many_given(counted: bool, names: Names, n: Counts) -> u32
     }
 }
 
-// DL = 0 is Unit Exception, where the row says so.
-fn ending_of(j: Job) -> Ending
-    ensures { λ r. ⌜ r ≡ endingOf j ⌝ }
-{
-    if j.rule.excepts {
-        if j.counts.dl == 0 {
-            return Ending::Exception;
-        }
-    }
-    Ending::Normal
-}
-
 // A read that has read all that it names.
 pub fn read(counted: bool, j: Job) -> Told
     ensures { λ r. ⌜ r ≡ readTold counted j ⌝ }
 {
-    let end = ending_of(j);
+    let end = ending::ending_of(j);
     let rule = j.rule;
     let names = rule.names;
     let n = many_given(counted, names, j.counts);

@@ -8,18 +8,16 @@ use turn::Ending;
 use turn::Moving;
 use turn::Told;
 ghost use mathlib.Core.Path.{_≡_};
-ghost use Prim.Native.Nat.{_+_, _≤_, min};
+ghost use Prim.Native.Nat.{_+_, _≤_};
 ghost use lib.ListN.{length};
 ghost use lib.Dec.{leb};
 ghost use Rattle.cells.specs.Choice.{pick, both};
 ghost use Rattle.cells.specs.Bytes.{part};
 ghost use Rattle.cells.specs.Cells.{bytesOf};
 ghost use Rattle.areas.specs.Areas.{countCells};
-ghost use Rattle.table.specs.declared.How.the-variants.{IfEqual, IfHigh, IfEqualOrHigh};
 ghost use Rattle.turn.specs.declared.Ending.the-variants.{Normal, Satisfied};
-ghost use Rattle.command.specs.Command.{flagBytes, idBytes, satisfies, found, equalOnly};
 ghost use Rattle.turn.specs.Turn.{alone, toldOf};
-ghost use Rattle.command.specs.Command.{Sighted, sight, comparison, compares};
+ghost use Rattle.command.specs.Command.{flagBytes, idBytes, satisfies, found, equalOnly, Sighted, sight, comparison, compares};
 ghost use Rattle.searches.specs.Field.{fieldFirst, fieldLength};
 
 // Cells of a flag, and of a count area with its check.
@@ -32,43 +30,13 @@ const HOME: u16 = 4;
 
 const ID: u16 = 5;
 
-fn if_equal(x: Compared) -> bool
-    ensures { λ r. ⌜ r ≡ satisfies IfEqual x ⌝ }
-{
-    match x {
-        Compared::Low => false,
-        Compared::Equal => true,
-        Compared::High => false,
-    }
-}
-
-fn if_high(x: Compared) -> bool
-    ensures { λ r. ⌜ r ≡ satisfies IfHigh x ⌝ }
-{
-    match x {
-        Compared::Low => false,
-        Compared::Equal => false,
-        Compared::High => true,
-    }
-}
-
-fn if_equal_or_high(x: Compared) -> bool
-    ensures { λ r. ⌜ r ≡ satisfies IfEqualOrHigh x ⌝ }
-{
-    match x {
-        Compared::Low => false,
-        Compared::Equal => true,
-        Compared::High => true,
-    }
-}
-
 fn satisfies(h: How, x: Compared) -> bool
     ensures { λ r. ⌜ r ≡ satisfies h x ⌝ }
 {
-    match h {
-        How::IfEqual => if_equal(x),
-        How::IfHigh => if_high(x),
-        How::IfEqualOrHigh => if_equal_or_high(x),
+    match x {
+        Compared::Low => false,
+        Compared::Equal => if let How::IfHigh = h { false } else { true },
+        Compared::High => if let How::IfEqual = h { false } else { true },
     }
 }
 
@@ -76,33 +44,20 @@ fn satisfies(h: How, x: Compared) -> bool
 fn found(h: How, x: Compared, n: u16) -> bool
     ensures { λ r. ⌜ r ≡ found h x n ⌝ }
 {
-    if n == 0 {
-        return false;
-    }
-    satisfies(h, x)
+    n != 0 && satisfies(h, x)
 }
 
 fn equal_only(h: How) -> bool
     ensures { λ r. ⌜ r ≡ equalOnly h ⌝ }
 {
-    match h {
-        How::IfEqual => true,
-        How::IfHigh => false,
-        How::IfEqualOrHigh => false,
-    }
+    if let How::IfEqual = h { true } else { false }
 }
 
 // Whether it was equal over the whole field, so many bytes being sent.
 fn wholly(h: How, x: Compared, n: u16, sent: usize) -> bool
     ensures { λ r. ⌜ r ≡ both (equalOnly h) (both (leb n sent) (found h x n)) ⌝ }
 {
-    if !equal_only(h) {
-        return false;
-    }
-    if sent < n as usize {
-        return false;
-    }
-    found(h, x, n)
+    equal_only(h) && (n as usize <= sent && found(h, x, n))
 }
 
 fn end_by(satisfied: bool) -> Ending
@@ -114,23 +69,11 @@ fn end_by(satisfied: bool) -> Ending
     Ending::Normal
 }
 
-fn lesser(a: usize, b: usize) -> usize
-    ensures { λ r. ⌜ r ≡ min a b ⌝ }
-{
-    if a < b {
-        return a;
-    }
-    b
-}
-
 // How far the field lies behind the first cell of its record: a key behind the count area, an ID behind the flag.
 fn behind(key: bool) -> u16
     ensures { λ r. ⌜ r ≡ pick key countCells flagBytes ⌝ }
 {
-    if key {
-        return COUNT;
-    }
-    FLAG
+    if key { COUNT } else { FLAG }
 }
 
 // The first cell of the field.
@@ -148,10 +91,7 @@ fn field_first(names: Names, place: u16) -> usize
 fn record_length(key: bool, n: Counts) -> u16
     ensures { λ r. ⌜ r ≡ pick key (n .kl) idBytes ⌝ }
 {
-    if key {
-        return n.kl as u16;
-    }
-    ID
+    if key { n.kl as u16 } else { ID }
 }
 
 // How many bytes the field has.
@@ -170,7 +110,7 @@ fn compare_field(track: &[u16], first: usize, n: usize, sent: &[u8]) -> Compared
     requires { ⌜ first + n ≤ length (now track) ⌝ }
     ensures { λ r. ⌜ r ≡ comparison (bytesOf (part (now (track .entry)) first n)) (now (sent .entry)) ⌝ }
 {
-    let m = lesser(sent.len(), n);
+    let m = cells::lesser(sent.len(), n);
     compare::compare(track, first, sent, 0, m)
 }
 

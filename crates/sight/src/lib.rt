@@ -12,19 +12,15 @@ ghost use Rattle.cells.specs.Choice.{both};
 ghost use Rattle.areas.specs.Areas.{homeArea};
 ghost use Rattle.pack.specs.declared.Head.{Head};
 ghost use Rattle.command.specs.declared.Got.the-variants.{Sees};
-ghost use Rattle.command.specs.Command.{areaIf, named, noCounts};
 ghost use Rattle.table.specs.declared.Names.the-variants as Names;
 ghost use Rattle.turn.specs.Turn.{alone};
-ghost use Rattle.command.specs.Command.{liesOn, allRead, gets};
+ghost use Rattle.command.specs.Command.{areaIf, named, noCounts, liesOn, allRead, gets};
 
 // Whether an area is named and there, by its length.
 fn is_there(named: bool, length: u16) -> bool
     ensures { λ r. ⌜ r ≡ both named (ltb 0 length) ⌝ }
 {
-    if !named {
-        return false;
-    }
-    0 < length
+    named && 0 < length
 }
 
 // An area read before what else is got.
@@ -42,10 +38,7 @@ fn read_area(track: &[u16], a: Area, x: Got) -> Got
 fn read_if(track: &[u16], there: bool, a: Area, x: Got) -> Got
     ensures { λ r. ⌜ ((h : Head) → r ≡ allRead (alone (now (track .entry))) (liesOn h (areaIf there a)) x) ⌝ }
 {
-    if there {
-        return read_area(track, a, x);
-    }
-    x
+    if there { read_area(track, a, x) } else { x }
 }
 
 // The key and the data of a record, if they are named and there. The key's row stands before the data's.

@@ -50,53 +50,32 @@ const MOST_TALLY: u16 = 1;
 fn equal_id(before: u8, whole: bool) -> bool
     ensures { λ r. ⌜ r ≡ equalId before whole ⌝ }
 {
-    if !whole {
-        return false;
-    }
-    before == SEARCH_ID_EQUAL
+    whole && before == SEARCH_ID_EQUAL
 }
 
 fn equal_id_or_key(before: u8, whole: bool) -> bool
     ensures { λ r. ⌜ r ≡ equalIdOrKey before whole ⌝ }
 {
-    if !whole {
-        return false;
-    }
-    if before == SEARCH_ID_EQUAL {
-        return true;
-    }
-    before == SEARCH_KEY_EQUAL
+    whole && (before == SEARCH_ID_EQUAL || before == SEARCH_KEY_EQUAL)
 }
 
 fn home_done(before: u8, whole: bool) -> bool
     ensures { λ r. ⌜ r ≡ homeDone before whole ⌝ }
 {
-    if before == WRITE_HOME {
-        return true;
-    }
-    if !whole {
-        return false;
-    }
-    before == SEARCH_HOME
+    before == WRITE_HOME || (whole && before == SEARCH_HOME)
 }
 
 fn record_written(before: u8) -> bool
     ensures { λ r. ⌜ r ≡ recordWritten before ⌝ }
 {
-    if before == WRITE_R0 {
-        return true;
-    }
-    before == WRITE_RECORD
+    before == WRITE_R0 || before == WRITE_RECORD
 }
 
 // Whether a new record may be written.
 fn record_licensed(before: u8, whole: bool) -> bool
     ensures { λ r. ⌜ r ≡ either (recordWritten before) (equalIdOrKey before whole) ⌝ }
 {
-    if record_written(before) {
-        return true;
-    }
-    equal_id_or_key(before, whole)
+    record_written(before) || equal_id_or_key(before, whole)
 }
 
 // Whether the command before was a search or a read.
@@ -126,12 +105,7 @@ fn licensed(l: Licence, o: Orders) -> bool
 fn is_tallying(a: Act) -> bool
     ensures { λ r. ⌜ r ≡ tallies a ⌝ }
 {
-    match a {
-        Act::Control(_) => false,
-        Act::Search(_) => true,
-        Act::Read(_) => false,
-        Act::Write(_) => false,
-    }
+    if let Act::Search(_) = a { true } else { false }
 }
 
 fn selection_if(selects: bool, spot: Spot) -> Selection
@@ -278,10 +252,7 @@ fn aimed(r: Rule, track: &[u16], s: Stands, o: Orders, a: Aim) -> Plan
 fn unless(barred: bool, row: Row, x: Plan) -> Plan
     ensures { λ r. ⌜ r ≡ pick barred (Refuses row) x ⌝ }
 {
-    if barred {
-        return Plan::Refuses(row);
-    }
-    x
+    if barred { Plan::Refuses(row) } else { x }
 }
 
 // The plan, unless the mask bars it.

@@ -109,24 +109,6 @@ module _ (t : List ℕ) (key : Bool) (c : ℕ) (n : Counts) (s : ℕ) (q : s ≡
       g ∙ ap (λ (a : Area). allRecorded t (areaIf (ltb 0 (n .dl)) a)) o
       ∙ sym (key-part ∙ ap (λ (z : Bool). both z (allRecorded t (areaIf (ltb 0 (n .dl)) (dataArea c n)))) e)
 
--- Unit Exception, or not
-module _ (j : Job) where
-  pub accepted : j .rule .excepts ≡ false → Normal ≡ endingOf j
-  unfolding endingOf
-  accepted e = ap (λ (b : Bool). pick (both b (eqb (j .counts .dl) 0)) Exception Normal) (sym e)
-
-  pub ended-empty : j .rule .excepts ≡ true → j .counts .dl ≡ 0 → Exception ≡ endingOf j
-  unfolding endingOf
-  ended-empty e f = ap₂ (λ (a b : Bool). pick (both a b) Exception Normal) (sym e) (sym (eq-eqb (j .counts .dl) 0 f))
-
-  pub ended-full : (j .counts .dl ≡ 0 → ⊥) → Normal ≡ endingOf j
-  unfolding endingOf
-  ended-full f = sym (ap (λ (b : Bool). pick (both (j .rule .excepts) b) Exception Normal) (ne-eqb (j .counts .dl) 0 f) ∙ none (j .rule .excepts))
-    where
-      none : (b : Bool) → pick (both b false) Exception Normal ≡ Normal
-      none true = refl
-      none false = refl
-
 module _ (t : List ℕ) (key : Bool) (j : Job) (b : Bool) (q : b ≡ allRecorded t (named (j .task .place) key true (j .counts))) (r : Told) where
   pub over-fails : b ≡ false → r ≡ failedAt (j .stands) (j .orders) Unreadable → r ≡ overTold key j t
   unfolding overTold overBy

@@ -22,9 +22,8 @@ ghost use Rattle.hunt.specs.Hunt.{Whole};
 ghost use Rattle.room.specs.Room.{fits};
 ghost use Rattle.recording.specs.Recording.{Lies};
 ghost use Rattle.laying.specs.Laying.{newCounts, newRecord, formatted};
-ghost use Rattle.command.specs.Command.{areaIf, named};
 ghost use Rattle.turn.specs.Turn.{alone, laid, isCheck, toldOf};
-ghost use Rattle.command.specs.Command.{allRecorded, sight, endingOf, recordTakes, keySent, lays};
+ghost use Rattle.command.specs.Command.{areaIf, named, allRecorded, sight, recordTakes, keySent, lays};
 ghost use Rattle.ending.specs.Ending.{failedAt};
 ghost use Rattle.writes.specs.Writes.{Writes, goneOver, updated, Over, r0Told, recordTold, overTold};
 
@@ -38,10 +37,7 @@ const COUNT_SENT: u32 = 8;
 fn key_sent(key: bool, n: Counts) -> u8
     ensures { λ r. ⌜ r ≡ keySent key n ⌝ }
 {
-    if key {
-        return n.kl;
-    }
-    0
+    if key { n.kl } else { 0 }
 }
 
 // Bytes that a new record takes: until its count is sent, 8.
@@ -99,10 +95,7 @@ fn write_after(at: u32, flag: u8, j: Job, sent: &[u8]) -> Told
 fn is_recorded_if(track: &[u16], there: bool, a: Area) -> bool
     ensures { λ r. ⌜ r ≡ allRecorded (now (track .entry)) (areaIf there a) ⌝ }
 {
-    if !there {
-        return true;
-    }
-    laying::is_recorded(track, a)
+    !there || laying::is_recorded(track, a)
 }
 
 // Whether the areas that an update goes over are.
@@ -110,23 +103,8 @@ fn are_recorded(track: &[u16], key: bool, c: u16, n: Counts) -> bool
     ensures { λ r. ⌜ r ≡ allRecorded (now (track .entry)) (named c key true n) ⌝ }
 {
     let keyed = 0 < key_sent(key, n);
-    if !is_recorded_if(track, keyed, areas::key_area(c, n)) {
-        return false;
-    }
-    is_recorded_if(track, 0 < n.dl, areas::data_area(c, n))
-}
-
-// Unit Exception where the row says so and DL is 0.
-fn ending_of(j: Job) -> Ending
-    ensures { λ r. ⌜ r ≡ endingOf j ⌝ }
-{
-    if !j.rule.excepts {
-        return Ending::Normal;
-    }
-    if j.counts.dl == 0 {
-        return Ending::Exception;
-    }
-    Ending::Normal
+    is_recorded_if(track, keyed, areas::key_area(c, n))
+        && is_recorded_if(track, 0 < n.dl, areas::data_area(c, n))
 }
 
 // Write Data, and Write Key and Data.
@@ -138,7 +116,7 @@ fn write_over(key: bool, j: Job, track: &[u16]) -> Told
         return fail(j, Row::Unreadable);
     }
     let moving = Moving::Takes(key_sent(key, n) as u32 + n.dl as u32);
-    ending::ended(j, ending_of(j), moving, false)
+    ending::ended(j, ending::ending_of(j), moving, false)
 }
 
 // How a write ends, the bytes that it takes, and what is held then. It lays nothing.

@@ -8,7 +8,6 @@ use Rattle.writes.proofs.write_over.Reads as reads
 use Rattle.writes.proofs.write_over.Lts as lts
 use Rattle.ending.proofs.ended.Reads as ended-reads
 use Rattle.writes.proofs.are_recorded.Reads as are-recorded-reads
-use Rattle.writes.proofs.ending_of.Reads as ending-of-reads
 use Rattle.writes.proofs.fail.Reads as fail-reads
 use Rattle.writes.proofs.key_sent.Reads as key-sent-reads
 

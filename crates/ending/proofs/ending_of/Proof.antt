@@ -1,8 +1,8 @@
 -- By the row, then by DL: both tests of the model.
 use borrow.Author.Tests.{eq-eqb, ne-eqb}
 use Rattle.command.specs.Command.{endingOf}
-use Rattle.reads.proofs.ending_of.Statement.{statement}
-use Rattle.reads.proofs.ending_of.Tie as tie
+use Rattle.ending.proofs.ending_of.Statement.{statement}
+use Rattle.ending.proofs.ending_of.Tie as tie
 
 returns : tie.Need-returns
 unfolding endingOf
@@ -17,9 +17,4 @@ unfolding endingOf
 returns-3 c = rw (c .if1 .left)
 
 pub ending-of-spec : {M : Type 1} → statement M
-ending-of-spec =
-    tie.close
-    (tie.spec
-    returns
-    returns-2
-    returns-3)
+ending-of-spec = tie.close (tie.spec returns returns-2 returns-3)
