@@ -9,12 +9,7 @@ use turn::Ending;
 use turn::Moving;
 use turn::Told;
 ghost use mathlib.Core.Path.{_≡_};
-<<<<<<< HEAD
-ghost use Rattle.command.specs.Command.{senseAfter, standsAfter, ordersAfter};
-=======
-ghost use Rattle.turn.specs.Turn.{rowTakes};
 ghost use Rattle.command.specs.Command.{endingOf, senseAfter, standsAfter, ordersAfter};
->>>>>>> h-short
 ghost use Rattle.ending.specs.Ending.{endedAt, failedAt};
 
 // Commands but Sense and No-op clear sense first.
@@ -81,8 +76,6 @@ pub fn ended(j: Job, ending: Ending, moving: Moving, whole: bool) -> Told
     ended_at(j, task, ending, moving, whole)
 }
 
-<<<<<<< HEAD
-=======
 // DL = 0 is Unit Exception, where the row says so.
 pub fn ending_of(j: Job) -> Ending
     ensures { λ r. ⌜ r ≡ endingOf j ⌝ }
@@ -95,19 +88,6 @@ pub fn ending_of(j: Job) -> Ending
     Ending::Normal
 }
 
-// How many bytes a command takes before a row shows.
-pub fn row_takes(row: Row) -> u32
-    ensures { λ r. ⌜ r ≡ rowTakes row ⌝ }
-{
-    match row {
-        Row::BadMask => 1,
-        Row::BadSeek => 6,
-        Row::NoRoom => 8,
-        _ => 0,
-    }
-}
-
->>>>>>> h-short
 // Unit Check for a row of the table.
 pub fn failed(s: Stands, o: Orders, row: Row) -> Told
     ensures { λ r. ⌜ r ≡ failedAt s o row ⌝ }

@@ -11,15 +11,9 @@ ghost use lib.ListN.{length};
 ghost use Rattle.cells.specs.Choice.{pick};
 ghost use Rattle.cells.specs.Bytes.{overlay, part};
 ghost use Rattle.cells.specs.Cells.{bytesOf};
-<<<<<<< HEAD
 ghost use Rattle.turn.specs.Turn.{alone, filled, given};
-ghost use Rattle.command.specs.Command.{Sighted, sight, endingOf, gives};
-ghost use Rattle.reads.specs.Inside.{LieIf, LieAll, Puts, recordGiven, manyGiven, readTold};
-=======
-ghost use Rattle.turn.specs.Turn.{Tracks, alone, filled, given, toldOf};
 ghost use Rattle.command.specs.Command.{Sighted, sight, gives};
-ghost use Rattle.reads.specs.Inside.{LieIf, LieAll, Puts, recordGiven, manyGiven};
->>>>>>> h-short
+ghost use Rattle.reads.specs.Inside.{LieIf, LieAll, Puts, recordGiven, manyGiven, readTold};
 
 const HOME_BYTES: u16 = 5;
 
