@@ -1,16 +1,14 @@
 -- What refusal 4 asks, taken apart and put together again: each of its tests by itself.
 use Prim.Native.Nat.{ℕ, _<_, _≤_}
-use mathlib.Core.Path.{_≡_, refl, ap, _∙_}
+use mathlib.Core.Path.{_≡_, ap}
 use mathlib.Core.Bool.{Bool, true, not}
 use mathlib.Core.List.{List}
 use lib.Dec.{ltb, leb}
 use borrow.Author.Tests.{ltb-true, leb-true, lt-ltb, le-leb}
-use Rattle.cells.specs.Choice.{both}
 use Rattle.cells.specs.Cells.{trackCells}
 use Rattle.cells.proofs.Tests.{first-of, second-of, both-of}
 use Rattle.mask.specs.Mask.{legal}
 use Rattle.words.specs.Words.{addresses}
-use Rattle.hunt.specs.Hunt.{spotFits}
 use Rattle.pack.specs.declared.Shape.{Shape}
 use Rattle.pack.specs.Shapes.{cylinderOn, headOn}
 use Rattle.pack.specs.Tracks as Tracks
@@ -22,7 +20,7 @@ use Rattle.held.specs.declared.Selection.the-variants.{Nothing, On}
 use Rattle.held.specs.declared.Stands.{Stands}
 use Rattle.held.specs.declared.Orders.{Orders}
 use Rattle.held.specs.declared.Channel.{Channel}
-use Rattle.turn.specs.Turn.{after, ordered}
+use Rattle.turn.specs.Turn.{ordered}
 use Rattle.chain.specs.Legal.{keys, standsFit, channelFits, selectionFits, ordersFit}
 
 -- ---- where the head stands

@@ -1,13 +1,13 @@
 -- What a command leaves: a place on the pack; orders that fit the track that is left; pieces that lie on the track under the head.
 use Prim.Native.Nat.{ℕ, suc, _+_, _<_, _≤_}
 use mathlib.Core.Path.{_≡_, refl, sym, ap, _∙_, subst}
-use mathlib.Core.Bool.{Bool, true, false, not, false≢true}
+use mathlib.Core.Bool.{Bool, true, false, not}
 use mathlib.Core.List.{List, [], _∷_, _++_}
 use native.Mathlib.Nat.{add-zero}
 use native.Mathlib.Omega.{arith}
 use lib.ListN.{length, getD}
-use lib.Dec.{ltb, eqb}
-use Rattle.cells.specs.Choice.{pick, both, either}
+use lib.Dec.{ltb}
+use Rattle.cells.specs.Choice.{pick, both}
 use Rattle.cells.specs.Bytes.{padded}
 use Rattle.cells.specs.Cells.{trackCells, marker, marks}
 use Rattle.cells.proofs.Marks.{getD-marks, mark-here}
@@ -20,7 +20,6 @@ use Rattle.mask.specs.Mask.{legal}
 use Rattle.house_check.specs.Area as Area
 use Rattle.areas.specs.declared.Counts.{Counts}
 use Rattle.areas.specs.Areas.{homeBytes, zeroFirst, keyArea, dataArea, recordCells, endBy, needed}
-use Rattle.areas.specs.Flags.{flagOfZero, flagAfter}
 use Rattle.hunt.specs.declared.Spot.{Spot}
 use Rattle.hunt.specs.declared.Spot.the-variants as Spot
 use Rattle.hunt.specs.Hunt.{Whole, spotFits, spaceRecord}
@@ -28,7 +27,6 @@ use Rattle.pack.specs.declared.Head.{Head}
 use Rattle.hunt.proofs.Inside.{space-in}
 use Rattle.room.specs.Room.{fits}
 use Rattle.room.proofs.Laws.{fits-ends}
-use Rattle.pack.specs.declared.Cylinder.{Cylinder}
 use Rattle.pack.specs.declared.Shape.{Shape}
 use Rattle.pack.specs.declared.Sought.{Sought}
 use Rattle.pack.specs.declared.Sought.the-variants as Sought
@@ -38,16 +36,14 @@ use Rattle.held.specs.declared.Selection.the-variants.{Nothing, On}
 use Rattle.held.specs.declared.Stands.{Stands}
 use Rattle.held.specs.declared.Orders.{Orders}
 use Rattle.turn.specs.declared.Ending.{Ending}
-use Rattle.turn.specs.declared.Ending.the-variants.{Normal, Exception}
-use Rattle.turn.specs.Turn.{standing, sensing, sought, ordered, after}
+use Rattle.turn.specs.declared.Ending.the-variants.{Normal}
+use Rattle.turn.specs.Turn.{standing, sensing, sought, after}
 use Rattle.laying.specs.Laying.{newCounts, newRecord, formatted}
 use Rattle.laying.proofs.Laws.{length-area, length-new, formatted-inside}
 use Rattle.command.specs.Command.{mostTally}
 use Rattle.command.specs.Command.{named}
 use Rattle.command.specs.declared.Got.{Got}
 use Rattle.command.specs.declared.Got.the-variants.{Sees, Fails}
-use Rattle.table.specs.declared.Aim.{Aim}
-use Rattle.table.specs.declared.Aim.the-variants as Aim
 use Rattle.table.specs.declared.Control.{Control}
 use Rattle.table.specs.declared.Control.the-variants as Control
 use Rattle.table.specs.declared.Write.{Write}
@@ -55,18 +51,18 @@ use Rattle.table.specs.declared.Write.the-variants as Write
 use Rattle.table.specs.declared.Act.{Act}
 use Rattle.table.specs.declared.Act.the-variants as Act
 use Rattle.table.specs.declared.Rule.{Rule}
-use Rattle.table.specs.Table.{ruleOf, isHome, find, controls, searches, reads, writes}
+use Rattle.table.specs.Table.{ruleOf, isHome, controls, searches, reads, writes}
 use Rattle.table.proofs.Laws.{every, each, of-every}
 use Rattle.turn.specs.Turn.{Tracks, Lies, Piece, Moves, Takes, Turn, laid, checks}
 use Rattle.command.specs.declared.Task.{Task}
 use Rattle.command.specs.declared.Job.{Job}
 use Rattle.command.specs.declared.Plan.{Plan}
 use Rattle.command.specs.declared.Plan.the-variants.{Refuses, Works}
-use Rattle.command.specs.Command.{Marks, marksOf, plans, gets, Sight, areasRead, sight, allRecorded, goesOver, writesOver, fails, standsAfter, ordersAfter, endsAt, ends, endingOf, rests, senses, soughtBy, addressed, arrives, seeks, masked, masks, spacedPlace, spaces, comparesWith, compares, gives, piece, toEnd, laysHome, recordTakes, laysNew, laysR0, laysRecord, over, keySent, updates, does, lays, acts, jobOf, hasRead, readyBy, planReads, turnBy, obeys, command, task}
+use Rattle.command.specs.Command.{Marks, marksOf, plans, Sight, sight, allRecorded, goesOver, writesOver, fails, standsAfter, ordersAfter, endsAt, ends, endingOf, rests, senses, soughtBy, addressed, arrives, seeks, masked, masks, spacedPlace, spaces, comparesWith, compares, gives, piece, toEnd, laysHome, recordTakes, laysNew, laysR0, laysRecord, over, keySent, updates, does, lays, acts, jobOf, hasRead, readyBy, turnBy, obeys, command, task}
 use Rattle.command.proofs.Plans.{selectsOne, not-true, isR0, Leaves, NoMarker, TaskOn, PlanOn, PlanFree, plan-on, none-free, r0-free}
-use Rattle.command.proofs.Pieces.{PiecesOn, length-laid, length-to-end, format-is, update-on}
+use Rattle.command.proofs.Pieces.{PiecesOn, length-to-end, format-is, update-on}
 use Rattle.chain.specs.Legal.{standsFit, ordersFit}
-use Rattle.chain.proofs.Fits.{stands-on, place-in, stands-fit, mask-legal, tally-in, selected-on, ordered-fit}
+use Rattle.chain.proofs.Fits.{stands-on, place-in, stands-fit, mask-legal, selected-on, ordered-fit}
 
 -- ---- what the table's rows have in common
 

@@ -4,7 +4,7 @@ use mathlib.Core.Path.{_≡_, refl, sym, ap, _∙_}
 use mathlib.Core.List.{List, [], _∷_}
 use native.Mathlib.Omega.{arith}
 use lib.ListN.{length}
-use Rattle.cells.specs.Bytes.{part, overlay}
+use Rattle.cells.specs.Bytes.{overlay}
 use Rattle.cells.specs.Cells.{trackCells}
 use Rattle.cells.proofs.Laws.{length-overlay, overlay-same}
 use Rattle.pack.specs.declared.Cylinder.{Cylinder}

@@ -15,9 +15,7 @@ use Rattle.pack.specs.declared.Shape.{Shape}
 use Rattle.pack.specs.Tracks.{startOf, trackAt}
 use Rattle.held.specs.declared.Held.{Held}
 use Rattle.held.specs.Held.{rested}
-use Rattle.table.specs.declared.Act.{Act}
-use Rattle.table.specs.declared.Act.the-variants as Act
-use Rattle.table.specs.Table.{ruleOf}
+use Rattle.table.specs.Table.{isWrite, ruleOf}
 use Rattle.turn.specs.Turn.{Tracks, Lies, Piece, Turn, toldOf}
 use Rattle.command.specs.Command.{command}
 use Rattle.channel.specs.Channel.{fetched, heldAfter, storageAfter}
@@ -102,12 +100,6 @@ testedReads g w (Bad cause) = []
 
 unfoldable pub wordReads : Shape → World → List Lies
 wordReads g w = testedReads g w (next w)
-
-unfoldable pub isWrite : Act → Bool
-isWrite (Act.Control a) = false
-isWrite (Act.Search h) = false
-isWrite (Act.Read c) = false
-isWrite (Act.Write w) = true
 
 unfoldable pub testedWrites : Tested → Bool
 testedWrites (Obey d) = isWrite (ruleOf (d .code) .act)

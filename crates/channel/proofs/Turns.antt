@@ -3,7 +3,7 @@
 use Prim.Native.Nat.{ℕ, _+_, _-_, _≤_}
 use mathlib.Core.Path.{_≡_, refl, sym, ap, ap₂, _∙_, subst}
 use mathlib.Core.Bool.{Bool, true, false}
-use mathlib.Core.List.{List, [], _++_, append-assoc}
+use mathlib.Core.List.{List, [], append-assoc}
 use native.Mathlib.Omega.{arith}
 use lib.ListN.{length, take, drop, length-take}
 use lib.Seq.{take-nil, drop-drop}
@@ -22,11 +22,11 @@ use Rattle.held.specs.declared.Orders.{Orders}
 use Rattle.turn.specs.declared.Moving.{Moving}
 use Rattle.turn.specs.declared.Moving.the-variants as Moving
 use Rattle.turn.specs.declared.Told.{Told}
-use Rattle.turn.specs.Turn.{Tracks, Lies, Piece, Moves, None, Gives, Takes, alone, given, movingOf, filled, Turn, toldOf, laid, isCheck, checks}
+use Rattle.turn.specs.Turn.{Lies, Piece, Moves, None, Gives, Takes, alone, given, movingOf, filled, Turn, toldOf, laid, isCheck, checks}
 use Rattle.command.specs.declared.Job.{Job}
 use Rattle.command.specs.declared.Ready.{Ready}
 use Rattle.command.specs.declared.Ready.the-variants as Ready
-use Rattle.command.specs.Command.{sight, acts, command, readies}
+use Rattle.command.specs.Command.{sight, acts, readies}
 use Rattle.command.proofs.Moves.{LaysBy, Lays, acts-lay, checks-lay, check-lays}
 use Rattle.command.proofs.Comes.{job-acts, row-ends}
 use Rattle.unit.specs.Unit.{Accepts}
@@ -34,7 +34,7 @@ use Rattle.ending.specs.Ending.{failedAt}
 use Rattle.ending.proofs.Laws.{failed}
 use Rattle.channel.specs.Channel.{fetched, placed, heldAfter, withStatus, storageAfter, served, servedBy, turnOn, serves}
 use Rattle.channel.specs.Inside as Inside
-use Rattle.channel.specs.Inside.{jobTurn, Asked, Turned}
+use Rattle.channel.specs.Inside.{jobTurn, Turned}
 
 -- ---- the part of storage that a word names
 

@@ -2,7 +2,7 @@
 -- two turns are one, where it reads it the word ends in Data Check (`damage:Struck`). Then how the channel ends a Data Check.
 use Prim.Native.Nat.{ℕ, _+_, _-_, _*_, _<_, _≤_, min}
 use mathlib.Core.Path.{_≡_, refl, sym, ap, ap₂, _∙_, subst}
-use mathlib.Core.Bool.{Bool, true, false, true≢false, false≢true}
+use mathlib.Core.Bool.{Bool, true, false, false≢true}
 use mathlib.Core.List.{List}
 use mathlib.Core.Logic.{_⊎_, inl, inr}
 use native.Mathlib.Omega.{arith}
@@ -11,6 +11,7 @@ use lib.ListN.{drop, length-take, length-drop}
 use lib.Seq.{take-nil, getD-take, getD-drop, ext-getD}
 use lib.Dec.{eqb}
 use borrow.Author.Tests.{eq-eqb, ne-eqb}
+use Rattle.table.specs.Table.{isWrite}
 use Rattle.cells.specs.Choice.{both}
 use Rattle.cells.specs.Bytes.{part, overlay}
 use Rattle.cells.specs.Cells.{trackCells, marks}
@@ -39,15 +40,12 @@ use Rattle.held.specs.Held.{rested}
 use Rattle.turn.specs.Turn.{sensing}
 use Rattle.channel.specs.Channel.{unitStatus, endsWell}
 use Rattle.command.specs.Command.{SelectedOn}
-use Rattle.table.specs.declared.Act.{Act}
-use Rattle.table.specs.declared.Act.the-variants as Act
 use Rattle.table.specs.Table.{ruleOf}
 use Rattle.turn.specs.Turn.{Lies, Piece, given, movingOf, wants, Turn, toldOf, isCheck, checks}
 use Rattle.rows.specs.Rows.{rowTakes}
-use Rattle.frame.specs.Frame.{laysCells}
 use Rattle.frame.proofs.Turns.{only-writes-lay}
 use Rattle.channel.specs.Channel.{fetched, placed, moved, moves, lengthCounts, wrongLength, goesOn, heldAfter, statusAfter, withStatus, storageAfter}
-use Rattle.chain.specs.Step.{World, world, under, selected, next, tracksOf, laidOn, stops, turnOf, settled, obeyed, takes, step, testedReads, wordReads, isWrite, testedWrites}
+use Rattle.chain.specs.Step.{World, world, under, selected, next, tracksOf, laidOn, stops, turnOf, settled, obeyed, takes, step, testedReads, wordReads, testedWrites}
 use Rattle.chain.specs.Legal.{Legal}
 use Rattle.chain.proofs.Fits.{selected-on}
 use Rattle.damage.specs.Damage.{any, sameArea}
@@ -82,14 +80,6 @@ module _ (s : Stands) (o : Orders) (r : List Lies) (d : Word) (p : Part) (c : Ch
       let same = ap (overlay st (d .address)) (take-nil (d .count)) ∙ overlay-none st (d .address) in
       let all : d .count - min (d .count) (rowTakes (rowOf p)) ≡ d .count = omega (arith, part-row p .1) in
       second-picked _ _ _ fails-ends ∙ ap₂ (λ (y : List ℕ) (k : ℕ). stored y (statusFor (c .key) (c .next) 0x0E 0x00 k)) same all
-
--- only a write lays cells
-no-write : (a : Act) → isWrite a ≡ false → laysCells a ≡ false
-unfolding isWrite laysCells
-no-write (Act.Control k) q = refl
-no-write (Act.Search k) q = refl
-no-write (Act.Read k) q = refl
-no-write (Act.Write k) q = absurd (true≢false q)
 
 -- ---- the tracks
 
@@ -136,7 +126,7 @@ module _ (n s : ℕ) (x : Area) (c c′ : List ℕ) (harm : Harmed n s x c c′)
     hurts k = track-hurt (trackNo g (h .stands .cylinder) k)
 
     module _ (sel : SelectedOn (marks (tracksOf g c (h .stands .cylinder) (h .stands .head))) (h .orders .selection)) where
-      module _ (d : Word) (q : laysCells (ruleOf (d .code) .act) ≡ false) where
+      module _ (d : Word) (q : isWrite (ruleOf (d .code) .act) ≡ false) where
         still : (cells : List ℕ) → laidOn g (h .stands .cylinder) (turnOf g (world h st cells) d .lays) cells ≡ cells
         unfolding turnOf laidOn
         still cells = ap (λ (l : List Piece). laidOn g (h .stands .cylinder) l cells) (only-writes-lay g _ (h .stands) (h .orders) (d .code) (fetched st d) q)
@@ -168,14 +158,14 @@ module _ (n s : ℕ) (x : Area) (c c′ : List ℕ) (harm : Harmed n s x c c′)
 
       takes-kept : (y : Tested) → testedWrites y ≡ false → any it (testedReads g (world h st c) y) ≡ false → Alike c c′ (takes g (world h st c) y) (takes g (world h st c′) y)
       unfolding takes testedWrites testedReads stops
-      takes-kept (Obey d) q e = obeyed-kept d (no-write _ q) e
+      takes-kept (Obey d) q e = obeyed-kept d q e
       takes-kept (Jump a) q e = record { held = refl; storage = refl; mine = refl; theirs = refl }
       takes-kept (Bad cause) q e = record { held = refl; storage = refl; mine = refl; theirs = refl }
 
       takes-broken : (y : Tested) → next (world h st c′) ≡ y → testedWrites y ≡ false → any it (testedReads g (world h st c) y) ≡ true
           → DataChecked x (world h st c′) (takes g (world h st c′) y)
       unfolding takes testedWrites testedReads any
-      takes-broken (Obey d) u q e = obeyed-broken d (no-write _ q) u e
+      takes-broken (Obey d) u q e = obeyed-broken d q u e
       takes-broken (Jump a) u q e = absurd (false≢true e)
       takes-broken (Bad cause) u q e = absurd (false≢true e)
 

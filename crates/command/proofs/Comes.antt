@@ -10,7 +10,7 @@ use Rattle.command.specs.declared.Got.{Got}
 use Rattle.command.specs.declared.Got.the-variants.{Sees, Fails}
 use Rattle.table.specs.declared.Rule.{Rule}
 use Rattle.table.specs.Table.{ruleOf}
-use Rattle.turn.specs.Turn.{Tracks, Lies, checks, toldOf}
+use Rattle.turn.specs.Turn.{Tracks, Lies, checks}
 use Rattle.command.specs.declared.Task.{Task}
 use Rattle.command.specs.declared.Plan.{Plan}
 use Rattle.command.specs.declared.Plan.the-variants.{Refuses, Works}

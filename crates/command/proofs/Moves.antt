@@ -2,7 +2,7 @@
 use Prim.Native.Nat.{ℕ}
 use mathlib.Core.Path.{_≡_, refl}
 use mathlib.Core.Bool.{Bool, true, false, false≢true}
-use mathlib.Core.List.{List, [], _∷_, _++_}
+use mathlib.Core.List.{List, []}
 use lib.Dec.{eqb}
 use Rattle.cells.specs.Choice.{pick, both}
 use Rattle.cells.proofs.Tests.{pick-all}
@@ -28,7 +28,7 @@ use Rattle.turn.specs.Turn.{Tracks, Lies, Piece, Moves, None, Gives, Takes, Tur
 use Rattle.command.specs.declared.Task.{Task}
 use Rattle.command.specs.declared.Ready.{Ready}
 use Rattle.command.specs.declared.Ready.the-variants as Ready
-use Rattle.command.specs.Command.{Sight, sight, fails, endsAt, ends, endingOf, rests, senses, addressed, arrives, seeks, masked, masks, spaces, satisfied, comparesWith, compares, gives, laysHome, laysNew, laysR0, laysRecord, over, updates, does, lays, acts, turnBy, obeys, command}
+use Rattle.command.specs.Command.{Sight, sight, fails, endsAt, ends, endingOf, rests, senses, arrives, seeks, masked, masks, spaces, satisfied, comparesWith, compares, gives, laysHome, laysNew, laysR0, laysRecord, updates, does, lays, acts, turnBy, obeys, command}
 
 abbrev pub LaysBy : Moves → List Piece → Type 0
 LaysBy None l = l ≡ []

@@ -18,7 +18,6 @@ use Rattle.house_check.specs.Area as Area
 use Rattle.areas.specs.declared.Area.{Area}
 use Rattle.areas.specs.declared.Counts.{Counts}
 use Rattle.areas.specs.Areas.{keyArea, dataArea}
-use Rattle.hunt.specs.Hunt.{Whole}
 use Rattle.pack.specs.declared.Head.{Head}
 use Rattle.command.specs.Command.{areaIf, named}
 use Rattle.laying.specs.Laying.{recorded, formatted}

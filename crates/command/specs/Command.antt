@@ -8,7 +8,7 @@ use lib.ListN.{length, getD, take, drop, replicate}
 use lib.Dec.{ltb, leb, eqb}
 use Rattle.cells.specs.Choice.{pick, both, either}
 use Rattle.cells.specs.Bytes.{be16, number, part, padded}
-use Rattle.cells.specs.Cells.{trackCells, firstMarker, marker, gap, marks}
+use Rattle.cells.specs.Cells.{trackCells, marker, gap, marks}
 use Rattle.rows.specs.declared.Row.{Row}
 use Rattle.rows.specs.declared.Row.the-variants as Row
 use Rattle.rows.specs.declared.Sense.{Sense}

@@ -7,6 +7,7 @@ use mathlib.Core.List.{List, []}
 use native.Mathlib.Omega.{arith}
 use lib.ListN.{length, getD, take, length-take}
 use lib.Seq.{take-nil}
+use Rattle.table.specs.Table.{isWrite}
 use Rattle.cells.specs.Choice.{both}
 use Rattle.cells.specs.Bytes.{overlay}
 use Rattle.cells.proofs.Laws.{overlay-none}
@@ -26,7 +27,7 @@ use Rattle.table.specs.Table.{ruleOf}
 use Rattle.turn.specs.Turn.{Tracks, Piece, Moves, None, Gives, Takes, given, movingOf, wants, Turn, toldOf, laid, isCheck, checks}
 use Rattle.command.specs.declared.Task.{Task}
 use Rattle.command.specs.Command.{Sight, sight, allRecorded, goesOver, writesOver, lays, acts, jobOf, command}
-use Rattle.frame.specs.Frame.{laysCells, givesBytes}
+use Rattle.frame.specs.Frame.{givesBytes}
 use Rattle.frame.proofs.Acts.{acts-keeps}
 use Rattle.frame.proofs.Turns.{check-lays, only-reads-give}
 use Rattle.frame.proofs.Here.{lays-here}
@@ -67,7 +68,7 @@ module _ (g : Shape) (t : Tracks) (s : Stands) (o : Orders) (code : ℕ) (v : Li
     goes-over w e = λ j. allRecorded (t (A .here j)) (goesOver (e j) (k .place) n)
 
     acts-within : (a : Act) → r .act ≡ a → Within (actReaches a (t (s .head)) (o .selection)) (acts g a x .lays)
-    unfolding actReaches laysCells acts sight
+    unfolding actReaches isWrite acts sight
     acts-within (Act.Control a) e = subst (Within _) (sym (acts-keeps x g (Act.Control a) .still refl)) tt
     acts-within (Act.Search h) e = subst (Within _) (sym (acts-keeps x g (Act.Search h) .still refl)) tt
     acts-within (Act.Read c) e = subst (Within _) (sym (acts-keeps x g (Act.Read c) .still refl)) tt

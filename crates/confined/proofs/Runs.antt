@@ -9,6 +9,7 @@ use native.Mathlib.Decide.{decLt}
 use lib.ListN.{getD}
 use lib.Dec.{eqb}
 use borrow.Author.Tests.{not-true, eqb-false}
+use Rattle.table.specs.Table.{isWrite}
 use Rattle.cells.specs.Choice.{pick, both}
 use Rattle.cells.specs.Cells.{trackCells}
 use Rattle.cells.proofs.Marks.{both-never}
@@ -24,7 +25,7 @@ use Rattle.table.specs.declared.Act.the-variants as Act
 use Rattle.table.specs.declared.Rule.{Rule}
 use Rattle.table.specs.Table.{ruleOf}
 use Rattle.command.specs.Command.{licensed}
-use Rattle.chain.specs.Step.{World, under, selected, next, step, run, isWrite, testedWrites}
+use Rattle.chain.specs.Step.{World, under, selected, next, step, run, testedWrites}
 use Rattle.chain.specs.Legal.{Legal}
 use Rattle.chain.proofs.Legal.{step-legal}
 use Rattle.confined.specs.Confined.{among, actReaches, bars, mayChange, wordChanges, changes, spares, sparesCell, sparesByte, writesOn, sparesTrack, RunConfined}

@@ -8,6 +8,7 @@ use mathlib.Core.Logic.{inl, inr}
 use native.Mathlib.Omega.{arith}
 use lib.Dec.{ltb}
 use borrow.Author.Tests.{ltb-true}
+use Rattle.table.specs.Table.{isWrite}
 use Rattle.cells.specs.Choice.{either}
 use Rattle.cells.specs.Cells.{marks}
 use Rattle.cells.proofs.Tests.{pick-all, second-of}
@@ -31,7 +32,7 @@ use Rattle.table.specs.Table.{ruleOf}
 use Rattle.turn.specs.Turn.{Tracks, Lies, checks}
 use Rattle.command.specs.declared.Plan.{Plan}
 use Rattle.command.specs.Command.{marksOf, liesOn, areasOf, planReads, command}
-use Rattle.frame.specs.Frame.{AllSame, Breaks, ReadsUnder, laysCells}
+use Rattle.frame.specs.Frame.{AllSame, Breaks, ReadsUnder}
 use Rattle.frame.proofs.Turns.{command-reads}
 use Rattle.frame.proofs.Kept.{still-kept}
 use Rattle.frame.proofs.Broken.{command-broken}
@@ -129,7 +130,7 @@ module _ (hit : Lies → Bool) (t t′ : Tracks) (H : (h : Head) → Hurt (λ (a
   -- ---- a command
 
   module _ (g : Shape) (s : Stands) (o : Orders) (code : ℕ) (v : List ℕ) (sel : SelectedOn (marks (t (s .head))) (o .selection)) where
-    pub command-spared : laysCells (ruleOf code .act) ≡ false → any hit (command g t s o code v .reads) ≡ false
+    pub command-spared : isWrite (ruleOf code .act) ≡ false → any hit (command g t s o code v .reads) ≡ false
         → command g t s o code v ≡ command g t′ s o code v
     command-spared q e = still-kept g t t′ s o code v q (λ h. H h .marked) (all-same _ (reads-own g t s o code v sel) e)
 

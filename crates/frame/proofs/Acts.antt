@@ -6,6 +6,7 @@ use mathlib.Core.Bool.{Bool, true, false, true≢false, false≢true}
 use mathlib.Core.List.{List, [], _∷_, _++_}
 use lib.ListN.{getD}
 use lib.Dec.{ltb, eqb}
+use Rattle.table.specs.Table.{isWrite}
 use Rattle.cells.specs.Choice.{both}
 use Rattle.cells.proofs.Tests.{pick-all}
 use Rattle.rows.specs.declared.Row.{Row}
@@ -32,14 +33,14 @@ use Rattle.turn.specs.Turn.{Lies, Piece, Moves, Takes, given, Turn, turn, isChe
 use Rattle.command.specs.declared.Task.{Task}
 use Rattle.command.specs.declared.Job.{Job}
 use Rattle.command.specs.Command.{Sight, fails, endsAt, ends, endingOf, rests, senses, addressed, arrives, seeks, masked, masks, spaces, comparesWith, compares, gives, laysHome, laysNew, laysR0, laysRecord, piece, over, keySent, updates, does, lays, acts}
-use Rattle.frame.specs.Frame.{LaysUnder, laysCells, givesBytes}
+use Rattle.frame.specs.Frame.{LaysUnder, givesBytes}
 
 -- a turn that an act, having read these areas, may come to under a head
 pub record Keeps (a : Act) (r : List Lies) (h : Head) (y : Turn) : Type 0 where
   pub reads : y .reads ≡ r
   pub under : LaysUnder h (y .lays)
   pub checked : isCheck (y .ending) ≡ true → y .lays ≡ []
-  pub still : laysCells a ≡ false → y .lays ≡ []
+  pub still : isWrite a ≡ false → y .lays ≡ []
   pub quiet : givesBytes a ≡ false → given (y .moves) ≡ []
 
 -- ---- the turns that there are
@@ -66,7 +67,7 @@ gives-keeps a r h e m s o f = record {
 -- cells
 lays-keeps : (w : Write) (r : List Lies) (h : Head) (e : Ending) (n : ℕ) (l : List Piece) (s : Stands) (o : Orders) → isCheck e ≡ false → LaysUnder h l
     → Keeps (Act.Write w) r h (turn e (Takes n) r l s o)
-unfolding laysCells given
+unfolding isWrite given
 lays-keeps w r h e n l s o c u = record {
   reads = refl;
   under = u;

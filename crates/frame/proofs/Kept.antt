@@ -5,6 +5,7 @@ use mathlib.Core.Path.{_≡_, refl, ap, ap₂, _∙_, subst}
 use mathlib.Core.Bool.{Bool, true≢false, false}
 use mathlib.Core.List.{List, [], _∷_}
 use lib.ListN.{take}
+use Rattle.table.specs.Table.{isWrite}
 use Rattle.cells.specs.Choice.{pick, both}
 use Rattle.cells.specs.Cells.{bytesOf, marks}
 use Rattle.house_check.specs.Area.{goodCells}
@@ -33,7 +34,7 @@ use Rattle.command.specs.declared.Plan.{Plan}
 use Rattle.command.specs.declared.Plan.the-variants.{Refuses, Works}
 use Rattle.command.specs.declared.Job.{Job}
 use Rattle.command.specs.Command.{marksOf, plans, liesOn, areasOf, allRead, countsIn, gets, saw, goesOver, allRecorded, areasRead, sight, acts, jobOf, hasRead, readyBy, planReads, turnBy, obeys, command}
-use Rattle.frame.specs.Frame.{Same, AllSame, planHead, laysCells}
+use Rattle.frame.specs.Frame.{Same, AllSame, planHead}
 use Rattle.frame.proofs.Turns.{planTurn, command-reads}
 
 module _ (t t′ : Tracks) where
@@ -71,8 +72,8 @@ module _ (t t′ : Tracks) where
   over-kept h e (a ∷ l) = ap₂ both (e a) (over-kept h e l)
 
   -- only a write goes over any
-  over-none : (h : Head) (a : Act) → laysCells a ≡ false → (c : ℕ) (n : Counts) → allRecorded (t h) (goesOver a c n) ≡ allRecorded (t′ h) (goesOver a c n)
-  unfolding laysCells goesOver allRecorded
+  over-none : (h : Head) (a : Act) → isWrite a ≡ false → (c : ℕ) (n : Counts) → allRecorded (t h) (goesOver a c n) ≡ allRecorded (t′ h) (goesOver a c n)
+  unfolding isWrite goesOver allRecorded
   over-none h (Act.Control k) e c n = refl
   over-none h (Act.Search k) e c n = refl
   over-none h (Act.Read counted) e c n = refl
@@ -150,6 +151,6 @@ module _ (g : Shape) (t t′ : Tracks) (s : Stands) (o : Orders) (code : ℕ) (v
   command-kept same over e = by-kept (λ h. record { marked = same h; over = λ c n. over-kept t t′ h (over h) _ }) e
 
   -- one that is no write sees the markers and what it reads, and nothing else
-  pub still-kept : laysCells (ruleOf code .act) ≡ false → ((h : Head) → marks (t h) ≡ marks (t′ h))
+  pub still-kept : isWrite (ruleOf code .act) ≡ false → ((h : Head) → marks (t h) ≡ marks (t′ h))
       → AllSame t t′ (command g t s o code v .reads) → command g t s o code v ≡ command g t′ s o code v
   still-kept q same e = by-kept (λ h. record { marked = same h; over = over-none t t′ h (ruleOf code .act) q }) e

@@ -4,6 +4,7 @@ use Prim.Native.Nat.{ℕ}
 use mathlib.Core.Path.{_≡_}
 use mathlib.Core.Bool.{true, false}
 use mathlib.Core.List.{List, []}
+use Rattle.table.specs.Table.{isWrite}
 use Rattle.pack.specs.declared.Shape.{Shape}
 use Rattle.held.specs.declared.Stands.{Stands}
 use Rattle.held.specs.declared.Orders.{Orders}
@@ -16,7 +17,7 @@ use Rattle.command.specs.declared.Task.{Task}
 use Rattle.command.specs.declared.Plan.{Plan}
 use Rattle.command.specs.declared.Plan.the-variants.{Refuses, Works}
 use Rattle.command.specs.Command.{marksOf, plans, areasOf, areasRead, sight, jobOf, hasRead, readyBy, planReads, turnBy, obeys, command}
-use Rattle.frame.specs.Frame.{planHead, LaysUnder, laysCells, givesBytes}
+use Rattle.frame.specs.Frame.{planHead, LaysUnder, givesBytes}
 use Rattle.frame.proofs.Acts.{Keeps, check-keeps, acts-keeps}
 
 module _ (g : Shape) (t : Tracks) (s : Stands) (o : Orders) (code : ℕ) (v : List ℕ) where
@@ -58,7 +59,7 @@ module _ (g : Shape) (t : Tracks) (s : Stands) (o : Orders) (code : ℕ) (v : Li
   check-lays = command-keeps .checked
 
   -- only a write lays anything
-  pub only-writes-lay : laysCells (ruleOf code .act) ≡ false → command g t s o code v .lays ≡ []
+  pub only-writes-lay : isWrite (ruleOf code .act) ≡ false → command g t s o code v .lays ≡ []
   only-writes-lay = command-keeps .still
 
   -- only a read or Sense gives bytes

@@ -51,13 +51,6 @@ LaysUnder h (p ∷ l) = (p .head ≡ h) × LaysUnder h l
 
 -- ---- which commands
 
--- the writes lay cells
-unfoldable pub laysCells : Act → Bool
-laysCells (Act.Control a) = false
-laysCells (Act.Search h) = false
-laysCells (Act.Read counted) = false
-laysCells (Act.Write w) = true
-
 -- the reads and Sense give bytes
 unfoldable pub givesBytes : Act → Bool
 givesBytes (Act.Control Control.Unknown) = false

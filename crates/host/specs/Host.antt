@@ -1,7 +1,7 @@
 -- Document 01, "What the host hears": the answers, the refusals in their order, a start, and going on. Assumes nothing.
 use Prim.Native.Nat.{ℕ}
-use mathlib.Core.Bool.{Bool, true, false}
-use mathlib.Core.List.{List, [], _∷_}
+use mathlib.Core.Bool.{true, false}
+use mathlib.Core.List.{[], _∷_}
 use lib.ListN.{length}
 use Rattle.cells.specs.Choice.{pick}
 use Rattle.cells.specs.Bytes.{overlay}

@@ -7,18 +7,15 @@ use native.Mathlib.Omega.{arith}
 use native.Mathlib.Decide.{ℕ-discrete}
 use lib.ListN.{length, take, drop, length-take, length-drop}
 use lib.Seq.{drop-drop, take-all}
-use Rattle.cells.specs.Choice.{pick}
 use Rattle.cells.specs.Bytes.{number, part}
 use Rattle.cells.specs.Cells.{byteOf, bytesOf}
 use Rattle.cells.proofs.Laws.{length-bytesOf, take-bytesOf, length-part, take-min}
-use Rattle.areas.specs.declared.Area.{Area}
 use Rattle.areas.specs.declared.Counts.{Counts}
-use Rattle.areas.specs.Areas.{countArea, keyArea, readable, rowOf, areaBytes, countsOf, countsAt}
+use Rattle.areas.specs.Areas.{countArea, keyArea, countsOf, countsAt}
 use Rattle.compare.specs.declared.Compared.{Compared}
 use Rattle.compare.specs.Compare.{compared, comparedBytes, There}
 use Rattle.pack.specs.declared.Head.{Head}
-use Rattle.command.specs.declared.Got.{Got}
-use Rattle.command.specs.declared.Got.the-variants.{Sees, Fails}
+use Rattle.command.specs.declared.Got.the-variants.{Sees}
 use Rattle.command.specs.Command.{Seen, idOf, gets, saw}
 use Rattle.command.proofs.Seen.{area-bytes, count-lies, record-counts, key-lies, record-key, home-seen, home-lies}
 use Rattle.table.specs.declared.Names.{Names}

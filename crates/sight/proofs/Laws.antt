@@ -12,15 +12,15 @@ use Rattle.areas.specs.declared.Area.{Area}
 use Rattle.areas.specs.declared.Counts.{Counts}
 use Rattle.areas.specs.declared.CountRead.{CountRead}
 use Rattle.areas.specs.declared.CountRead.the-variants as CountRead
-use Rattle.areas.specs.Areas.{homeArea, countArea, keyArea, dataArea, readable, areaBytes, rowOf, countsAt, readCount}
+use Rattle.areas.specs.Areas.{homeArea, countArea, keyArea, dataArea, readable, rowOf, countsAt, readCount}
 use Rattle.pack.specs.declared.Head.{Head}
 use Rattle.command.specs.declared.Got.{Got}
 use Rattle.command.specs.declared.Got.the-variants.{Sees, Fails}
-use Rattle.command.specs.Command.{areaIf, named, namedBy, noCounts, seeing}
+use Rattle.command.specs.Command.{areaIf, named, namedBy, noCounts}
 use Rattle.table.specs.declared.Names.{Names}
 use Rattle.table.specs.declared.Names.the-variants as Names
-use Rattle.turn.specs.Turn.{Tracks, alone}
-use Rattle.command.specs.Command.{liesOn, areasOf, allRead, countsIn, gets, saw}
+use Rattle.turn.specs.Turn.{Tracks}
+use Rattle.command.specs.Command.{liesOn, areasOf, allRead, countsIn, gets}
 
 -- ---- an area before what else is got
 

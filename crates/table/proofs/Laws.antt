@@ -1,10 +1,10 @@
 -- What a computed test finds of every row of the table, and of the row of unknown codes, holds of the row of every code.
 use Prim.Native.Nat.{ℕ}
-use mathlib.Core.Path.{_≡_, refl}
-use mathlib.Core.Bool.{Bool, true, false}
+use mathlib.Core.Path.{_≡_}
+use mathlib.Core.Bool.{Bool, true}
 use mathlib.Core.List.{List, [], _∷_}
 use lib.Dec.{eqb}
-use Rattle.cells.specs.Choice.{pick, both}
+use Rattle.cells.specs.Choice.{both}
 use Rattle.cells.proofs.Tests.{pick-all, first-of, second-of}
 use Rattle.table.specs.declared.Rule.{Rule}
 use Rattle.table.specs.Table.{Entry, controls, searches, reads, writes, unknown, find, ruleOf}

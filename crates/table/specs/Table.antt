@@ -160,6 +160,13 @@ looks (Act.Search h) = true
 looks (Act.Read c) = true
 looks (Act.Write w) = false
 
+-- 19, 15, 1D, 05 or 0D
+unfoldable pub isWrite : Act → Bool
+isWrite (Act.Control a) = false
+isWrite (Act.Search h) = false
+isWrite (Act.Read c) = false
+isWrite (Act.Write w) = true
+
 unfoldable pub servesData : Serves → Bool
 servesData Serves.Nobody = false
 servesData Serves.Data = true

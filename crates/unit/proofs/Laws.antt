@@ -1,10 +1,11 @@
 -- What the unit's calls come to, in the model's words.
 use Prim.Native.Nat.{ℕ}
-use mathlib.Core.Path.{_≡_, refl, sym, ap, _∙_}
+use mathlib.Core.Path.{_≡_, sym, ap, _∙_}
 use mathlib.Core.Bool.{false}
 use mathlib.Core.List.{List, []}
-use lib.ListN.{length, take, drop}
+use lib.ListN.{length, take}
 use lib.Seq.{take-nil, drop-nil}
+use Rattle.table.specs.Table.{isWrite}
 use Rattle.cells.specs.Bytes.{overlay}
 use Rattle.cells.proofs.Laws.{overlay-none}
 use Rattle.rows.specs.declared.Row.{Row}
@@ -32,7 +33,7 @@ use Rattle.command.specs.declared.Ready.{Ready}
 use Rattle.command.specs.declared.Ready.the-variants as Ready
 use Rattle.command.specs.Command.{marksOf, plans, gets, Sight, sight, ends, endsAt, senseBytes, senses, does, lays, acts, jobOf, hasRead, readyBy, readies}
 use Rattle.unit.specs.Unit.{Accepts}
-use Rattle.frame.specs.Frame.{laysCells, givesBytes}
+use Rattle.frame.specs.Frame.{givesBytes}
 use Rattle.frame.proofs.Acts.{acts-keeps}
 
 -- ---- before it acts
@@ -80,7 +81,7 @@ pub sense-given : (l u : List ℕ) (from : ℕ) (g : Shape) (x : Sight) (k : Con
 unfolding does senses ends endsAt given
 sense-given l u from g x k e q = q ∙ ap (λ (z : Control). filled l from (given (does g z x .moves))) (sym e)
 
-pub none-laid : (t : List ℕ) (g : Shape) (x : Sight) (a b : Act) → a ≡ b → laysCells b ≡ false → t ≡ laid (acts g a x .lays) t
+pub none-laid : (t : List ℕ) (g : Shape) (x : Sight) (a b : Act) → a ≡ b → isWrite b ≡ false → t ≡ laid (acts g a x .lays) t
 unfolding laid
 none-laid t g x a b e q = sym (ap (λ (z : Act). laid (acts g z x .lays) t) e ∙ ap (λ (l : List Piece). laid l t) (acts-keeps x g b .still q))
 

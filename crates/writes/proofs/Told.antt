@@ -5,8 +5,7 @@ use mathlib.Core.Bool.{Bool, true, false}
 use mathlib.Core.List.{List, [], _∷_, _++_}
 use native.Mathlib.Omega.{arith}
 use lib.ListN.{getD}
-use lib.Dec.{ltb, eqb}
-use borrow.Author.Tests.{eq-eqb, ne-eqb}
+use lib.Dec.{ltb}
 use Rattle.cells.specs.Choice.{pick, both}
 use Rattle.cells.proofs.Tests.{first-picked, second-picked}
 use Rattle.rows.specs.declared.Row.the-variants.{Unreadable, NoRoom}
@@ -19,7 +18,7 @@ use Rattle.room.specs.Room.{fits}
 use Rattle.room.proofs.Laws.{fits-ends}
 use Rattle.held.specs.declared.Selection.the-variants.{On}
 use Rattle.turn.specs.declared.Ending.{Ending}
-use Rattle.turn.specs.declared.Ending.the-variants.{Normal, Exception}
+use Rattle.turn.specs.declared.Ending.the-variants.{Normal}
 use Rattle.command.specs.Command.{areaIf, named}
 use Rattle.laying.specs.Laying.{newCounts, recorded}
 use Rattle.table.specs.declared.Write.{Write}

@@ -5,8 +5,6 @@ use Rattle.laying.proofs.Calls.{key-lies, key-laid, key-none}
 use borrow.Author.Needs.{needs}
 use Rattle.laying.proofs.lay_key.Statement.{statement}
 use Rattle.laying.proofs.lay_key.Tie as tie
-use Rattle.laying.proofs.lay_key.Reads as reads
-use Rattle.laying.proofs.lay_key.Lts as lts
 use Rattle.laying.proofs.lay_area.Reads as lay-area-reads
 
 cast-kl : tie.Need-cast-kl

@@ -3,8 +3,6 @@ use Rattle.laying.proofs.Calls.{marked-laid}
 use borrow.Author.Needs.{needs}
 use Rattle.laying.proofs.lay_marked.Statement.{statement}
 use Rattle.laying.proofs.lay_marked.Tie as tie
-use Rattle.laying.proofs.lay_marked.Reads as reads
-use Rattle.laying.proofs.lay_marked.Lts as lts
 use Rattle.laying.proofs.lay_record.Reads as lay-record-reads
 use Rattle.laying.proofs.put_marker.Reads as put-marker-reads
 

@@ -4,8 +4,6 @@ use Rattle.laying.proofs.Calls.{count-fits, key-fits, data-fits, record
 use borrow.Author.Needs.{needs}
 use Rattle.laying.proofs.lay_record.Statement.{statement}
 use Rattle.laying.proofs.lay_record.Tie as tie
-use Rattle.laying.proofs.lay_record.Reads as reads
-use Rattle.laying.proofs.lay_record.Lts as lts
 use Rattle.areas.proofs.data_area.Reads as data-area-reads
 use Rattle.areas.proofs.key_area.Reads as key-area-reads
 use Rattle.laying.proofs.lay_area.Reads as lay-area-reads

@@ -3,8 +3,6 @@ use Rattle.laying.proofs.Calls.{counts-new}
 use borrow.Author.Needs.{needs}
 use Rattle.laying.proofs.new_counts.Statement.{statement}
 use Rattle.laying.proofs.new_counts.Tie as tie
-use Rattle.laying.proofs.new_counts.Reads as reads
-use Rattle.laying.proofs.new_counts.Lts as lts
 use Rattle.cells.proofs.byte_at.Reads as byte-at-reads
 use Rattle.cells.proofs.pair.Reads as pair-reads
 

@@ -4,8 +4,6 @@ use Rattle.cells.proofs.Laws.{set-overlay}
 use borrow.Author.Needs.{needs}
 use Rattle.laying.proofs.put_marker.Statement.{statement}
 use Rattle.laying.proofs.put_marker.Tie as tie
-use Rattle.laying.proofs.put_marker.Reads as reads
-use Rattle.laying.proofs.put_marker.Lts as lts
 
 mul-track : tie.Need-mul-track
 mul-track c = search needs

@@ -3,8 +3,6 @@ use Rattle.rows.specs.Rows.{senseOf}
 use borrow.Author.Needs.{needs}
 use Rattle.rows.proofs.sense_of.Statement.{statement}
 use Rattle.rows.proofs.sense_of.Tie as tie
-use Rattle.rows.proofs.sense_of.Reads as reads
-use Rattle.rows.proofs.sense_of.Lts as lts
 use Rattle.rows.proofs.of_bytes.Reads as of-bytes-reads
 
 enum-told : tie.Need-enum-told

@@ -1,9 +1,8 @@
 -- Reads give what they have read, Sense its bytes; searches and writes give nothing.
 use mathlib.Core.Path.{refl}
 use Rattle.table.specs.declared.Act.the-variants as Act
-use Rattle.command.specs.Command.{sight, acts}
+use Rattle.command.specs.Command.{acts}
 use Rattle.frame.specs.Frame.{givesBytes}
-use Rattle.turn.specs.Turn.{alone}
 use Rattle.unit.proofs.Laws.{given-by, none-given}
 use borrow.Author.Needs.{needs}
 use Rattle.unit.proofs.give.Statement.{statement}

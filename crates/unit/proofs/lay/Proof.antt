@@ -1,10 +1,7 @@
 -- Only a write lays; the others leave the track as it is.
-use mathlib.Core.Path.{refl, ap, _∙_, sym}
-use Rattle.table.specs.declared.Act.{Act}
-use Rattle.table.specs.declared.Act.the-variants as Act
-use Rattle.turn.specs.Turn.{alone, isCheck}
-use Rattle.command.specs.Command.{sight, acts}
-use Rattle.frame.specs.Frame.{laysCells}
+use mathlib.Core.Path.{refl}
+use Rattle.table.specs.Table.{isWrite}
+use Rattle.command.specs.Command.{acts}
 use Rattle.writes.proofs.Rows.{writes-by}
 use Rattle.unit.proofs.Laws.{none-laid, laid-by, accepts-by}
 use borrow.Author.Needs.{needs}
@@ -17,15 +14,15 @@ lay-requires c κs =
     (k .pre .0, writes-by _ _ (k .pre .1 .rule) (c .before .before .act .given .1), accepts-by _ _ _ _ (c .before .before .act .given .1) (k .pre .2))
 
 returns : tie.Need-returns
-unfolding laysCells
+unfolding isWrite
 returns c = λ g. none-laid _ g _ _ _ (c .enum-told .given .1) refl
 
 returns-2 : tie.Need-returns-2
-unfolding laysCells
+unfolding isWrite
 returns-2 c = λ g. none-laid _ g _ _ _ (c .enum-told2 .given .1) refl
 
 returns-3 : tie.Need-returns-3
-unfolding laysCells
+unfolding isWrite
 returns-3 c = λ g. none-laid _ g _ _ _ (c .enum-told3 .given .1) refl
 
 returns-4 : tie.Need-returns-4

@@ -4,8 +4,6 @@ use Rattle.writes.proofs.Told.{key-bad, both-recorded}
 use borrow.Author.Needs.{needs}
 use Rattle.writes.proofs.are_recorded.Statement.{statement}
 use Rattle.writes.proofs.are_recorded.Tie as tie
-use Rattle.writes.proofs.are_recorded.Reads as reads
-use Rattle.writes.proofs.are_recorded.Lts as lts
 use Rattle.areas.proofs.data_area.Reads as data-area-reads
 use Rattle.areas.proofs.key_area.Reads as key-area-reads
 use Rattle.writes.proofs.is_recorded_if.Reads as is-recorded-if-reads

@@ -4,8 +4,6 @@ use Rattle.writes.proofs.Calls.{gone-over, not-over}
 use borrow.Author.Needs.{needs}
 use Rattle.writes.proofs.go_over.Statement.{statement}
 use Rattle.writes.proofs.go_over.Tie as tie
-use Rattle.writes.proofs.go_over.Reads as reads
-use Rattle.writes.proofs.go_over.Lts as lts
 use Rattle.laying.proofs.lay_area.Reads as lay-area-reads
 
 lay-area-requires : tie.Need-lay-area-requires

@@ -5,8 +5,6 @@ use Rattle.writes.proofs.Told.{not-there, area-there}
 use borrow.Author.Needs.{needs}
 use Rattle.writes.proofs.is_recorded_if.Statement.{statement}
 use Rattle.writes.proofs.is_recorded_if.Tie as tie
-use Rattle.writes.proofs.is_recorded_if.Reads as reads
-use Rattle.writes.proofs.is_recorded_if.Lts as lts
 use Rattle.laying.proofs.is_recorded.Reads as is-recorded-reads
 
 returns : tie.Need-returns

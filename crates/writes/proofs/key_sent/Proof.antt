@@ -2,8 +2,6 @@
 use Rattle.command.specs.Command.{keySent}
 use Rattle.writes.proofs.key_sent.Statement.{statement}
 use Rattle.writes.proofs.key_sent.Tie as tie
-use Rattle.writes.proofs.key_sent.Reads as reads
-use Rattle.writes.proofs.key_sent.Lts as lts
 
 returns : tie.Need-returns
 unfolding keySent

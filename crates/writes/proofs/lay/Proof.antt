@@ -3,8 +3,6 @@ use Rattle.writes.proofs.Calls.{lays-home, r0-room, lays-r0, record-roo
 use borrow.Author.Needs.{needs}
 use Rattle.writes.proofs.lay.Statement.{statement}
 use Rattle.writes.proofs.lay.Tie as tie
-use Rattle.writes.proofs.lay.Reads as reads
-use Rattle.writes.proofs.lay.Lts as lts
 use Rattle.areas.proofs.end_by.Reads as end-by-reads
 use Rattle.areas.proofs.flag_after.Reads as flag-after-reads
 use Rattle.areas.proofs.flag_of_zero.Reads as flag-of-zero-reads

@@ -4,8 +4,6 @@ use Rattle.writes.proofs.Calls.{record-in, record-ends, record-formatte
 use borrow.Author.Needs.{needs}
 use Rattle.writes.proofs.lay_after.Statement.{statement}
 use Rattle.writes.proofs.lay_after.Tie as tie
-use Rattle.writes.proofs.lay_after.Reads as reads
-use Rattle.writes.proofs.lay_after.Lts as lts
 use Rattle.areas.proofs.cells_needed.Reads as cells-needed-reads
 use Rattle.laying.proofs.lay_marked.Reads as lay-marked-reads
 use Rattle.laying.proofs.new_counts.Reads as new-counts-reads

@@ -3,8 +3,6 @@ use Rattle.writes.proofs.Calls.{home-formatted}
 use borrow.Author.Needs.{needs}
 use Rattle.writes.proofs.lay_home.Statement.{statement}
 use Rattle.writes.proofs.lay_home.Tie as tie
-use Rattle.writes.proofs.lay_home.Reads as reads
-use Rattle.writes.proofs.lay_home.Lts as lts
 use Rattle.recording.proofs.wipe.Reads as wipe-reads
 use Rattle.recording.proofs.write_area.Reads as write-area-reads
 

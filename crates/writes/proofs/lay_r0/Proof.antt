@@ -3,8 +3,6 @@ use Rattle.writes.proofs.Calls.{r0-ends, r0-formatted}
 use borrow.Author.Needs.{needs}
 use Rattle.writes.proofs.lay_r0.Statement.{statement}
 use Rattle.writes.proofs.lay_r0.Tie as tie
-use Rattle.writes.proofs.lay_r0.Reads as reads
-use Rattle.writes.proofs.lay_r0.Lts as lts
 use Rattle.areas.proofs.record_cells.Reads as record-cells-reads
 use Rattle.laying.proofs.lay_record.Reads as lay-record-reads
 use Rattle.laying.proofs.new_counts.Reads as new-counts-reads

@@ -4,8 +4,6 @@ use Rattle.command.specs.Command.{recordTakes}
 use borrow.Author.Needs.{needs}
 use Rattle.writes.proofs.record_takes.Statement.{statement}
 use Rattle.writes.proofs.record_takes.Tie as tie
-use Rattle.writes.proofs.record_takes.Reads as reads
-use Rattle.writes.proofs.record_takes.Lts as lts
 
 returns : tie.Need-returns
 unfolding recordTakes

@@ -3,8 +3,6 @@ use Rattle.writes.proofs.Calls.{key-lies, data-lies, both-updated}
 use borrow.Author.Needs.{needs}
 use Rattle.writes.proofs.update.Statement.{statement}
 use Rattle.writes.proofs.update.Tie as tie
-use Rattle.writes.proofs.update.Reads as reads
-use Rattle.writes.proofs.update.Lts as lts
 use Rattle.areas.proofs.data_area.Reads as data-area-reads
 use Rattle.areas.proofs.key_area.Reads as key-area-reads
 use Rattle.writes.proofs.go_over.Reads as go-over-reads

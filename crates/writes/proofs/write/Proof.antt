@@ -3,8 +3,6 @@ use Rattle.writes.proofs.Told.{tells-home, tells-r0, tells-record, tell
 use borrow.Author.Needs.{needs}
 use Rattle.writes.proofs.write.Statement.{statement}
 use Rattle.writes.proofs.write.Tie as tie
-use Rattle.writes.proofs.write.Reads as reads
-use Rattle.writes.proofs.write.Lts as lts
 use Rattle.areas.proofs.end_by.Reads as end-by-reads
 use Rattle.areas.proofs.flag_after.Reads as flag-after-reads
 use Rattle.areas.proofs.flag_of_zero.Reads as flag-of-zero-reads

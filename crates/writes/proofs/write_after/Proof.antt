@@ -5,8 +5,6 @@ use Rattle.writes.proofs.Told.{new-fails, new-ends, record-begins, reco
 use borrow.Author.Needs.{needs}
 use Rattle.writes.proofs.write_after.Statement.{statement}
 use Rattle.writes.proofs.write_after.Tie as tie
-use Rattle.writes.proofs.write_after.Reads as reads
-use Rattle.writes.proofs.write_after.Lts as lts
 use Rattle.areas.proofs.cells_needed.Reads as cells-needed-reads
 use Rattle.ending.proofs.ended_at.Reads as ended-at-reads
 use Rattle.laying.proofs.new_counts.Reads as new-counts-reads

@@ -4,8 +4,6 @@ use Rattle.writes.proofs.Told.{over-fails, over-ends}
 use borrow.Author.Needs.{needs}
 use Rattle.writes.proofs.write_over.Statement.{statement}
 use Rattle.writes.proofs.write_over.Tie as tie
-use Rattle.writes.proofs.write_over.Reads as reads
-use Rattle.writes.proofs.write_over.Lts as lts
 use Rattle.ending.proofs.ended.Reads as ended-reads
 use Rattle.writes.proofs.are_recorded.Reads as are-recorded-reads
 use Rattle.writes.proofs.fail.Reads as fail-reads

@@ -4,8 +4,6 @@ use Rattle.writes.proofs.Told.{new-fails, new-ends, r0-told}
 use borrow.Author.Needs.{needs}
 use Rattle.writes.proofs.write_r0.Statement.{statement}
 use Rattle.writes.proofs.write_r0.Tie as tie
-use Rattle.writes.proofs.write_r0.Reads as reads
-use Rattle.writes.proofs.write_r0.Lts as lts
 use Rattle.areas.proofs.record_cells.Reads as record-cells-reads
 use Rattle.ending.proofs.ended.Reads as ended-reads
 use Rattle.laying.proofs.new_counts.Reads as new-counts-reads
