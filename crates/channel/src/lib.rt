@@ -14,13 +14,11 @@ ghost use Prim.Native.Nat.{_<_, _≤_};
 ghost use lib.ListN.{length};
 ghost use Rattle.cells.specs.Choice.{pick};
 ghost use Rattle.turn.specs.Turn.{alone, given, wants, toldOf, laid, isCheck};
-ghost use Rattle.channel.specs.Channel.{unitStatus, endsWell, stride, onward};
 ghost use Rattle.cells.specs.Cells.{marks};
 ghost use Rattle.words.specs.Words.{Reaches};
 ghost use Rattle.hunt.specs.Hunt.{Whole};
-ghost use Rattle.command.specs.Command.{SelectedOn};
-ghost use Rattle.command.specs.Command.{Sighted};
-ghost use Rattle.channel.specs.Channel.{placed, moved, moves, lengthCounts, wrongLength, goesOn, heldAfter, statusAfter, withStatus, turnOn, served, serves};
+ghost use Rattle.command.specs.Command.{SelectedOn, Sighted};
+ghost use Rattle.channel.specs.Channel.{unitStatus, endsWell, stride, onward, placed, moved, moves, lengthCounts, wrongLength, goesOn, heldAfter, statusAfter, withStatus, turnOn, served, serves};
 ghost use Rattle.channel.specs.Inside.{jobTurn, Takes, Asked, Turned, Serves};
 
 // Flags of a command word: go on to the next, and incorrect length is none.
@@ -38,7 +36,7 @@ const EXCEPTION: u8 = 0x0D;
 const CHECK: u8 = 0x0E;
 
 // Channel status.
-const INCORRECT_LENGTH: u8 = 0x40;
+const WRONG_LENGTH: u8 = 0x40;
 
 // Bytes of a command word.
 const WORD: u32 = 8;
@@ -70,10 +68,8 @@ fn stride(e: Ending) -> u32
     ensures { λ r. ⌜ r ≡ stride e ⌝ }
 {
     match e {
-        Ending::Normal => WORD,
         Ending::Satisfied => 2 * WORD,
-        Ending::Exception => WORD,
-        Ending::Check(_) => WORD,
+        _ => WORD,
     }
 }
 
@@ -81,10 +77,8 @@ fn is_check(e: Ending) -> bool
     ensures { λ r. ⌜ r ≡ isCheck e ⌝ }
 {
     match e {
-        Ending::Normal => false,
-        Ending::Satisfied => false,
-        Ending::Exception => false,
         Ending::Check(_) => true,
+        _ => false,
     }
 }
 
@@ -102,11 +96,7 @@ fn wants(m: Moving) -> u32
 fn moves(m: Moving) -> bool
     ensures { λ r. ⌜ r ≡ moves m ⌝ }
 {
-    match m {
-        Moving::None => false,
-        Moving::Gives(_) => true,
-        Moving::Takes(_) => true,
-    }
+    if let Moving::None = m { false } else { true }
 }
 
 fn moved(w: Word, d: Told) -> u16
@@ -124,38 +114,23 @@ fn length_counts(d: Told) -> bool
     ensures { λ r. ⌜ r ≡ lengthCounts d ⌝ }
 {
     let m = d.moving;
-    if !moves(m) {
-        return false;
-    }
     let e = d.ending;
-    !is_check(e)
+    moves(m) && !is_check(e)
 }
 
 // Whether a command is of incorrect length, and flag 20 is off.
 fn wrong_length(w: Word, d: Told) -> bool
     ensures { λ r. ⌜ r ≡ wrongLength w d ⌝ }
 {
-    if !length_counts(d) {
-        return false;
-    }
-    if w.flags / SUPPRESSES % 2 == 1 {
-        return false;
-    }
     let m = d.moving;
-    wants(m) != w.count as u32
+    length_counts(d) && (w.flags / SUPPRESSES % 2 != 1 && wants(m) != w.count as u32)
 }
 
 fn goes_on(w: Word, d: Told) -> bool
     ensures { λ r. ⌜ r ≡ goesOn w d ⌝ }
 {
-    if w.flags / CHAINS % 2 != 1 {
-        return false;
-    }
-    if wrong_length(w, d) {
-        return false;
-    }
     let e = d.ending;
-    ends_well(e)
+    w.flags / CHAINS % 2 == 1 && (!wrong_length(w, d) && ends_well(e))
 }
 
 // The next word, so many bytes on.
@@ -173,10 +148,7 @@ fn onward(c: Channel, n: u32) -> Channel
 fn length_status(w: Word, d: Told) -> u8
     ensures { λ r. ⌜ r ≡ pick (wrongLength w d) 0x40 0x00 ⌝ }
 {
-    if wrong_length(w, d) {
-        return INCORRECT_LENGTH;
-    }
-    0
+    if wrong_length(w, d) { WRONG_LENGTH } else { 0 }
 }
 
 fn status_after(c: Channel, w: Word, d: Told) -> Status

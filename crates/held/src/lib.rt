@@ -165,13 +165,7 @@ fn selection_fits(bytes: &[u8]) -> bool
     ensures { λ r. ⌜ r ≡ selectionFits (now (bytes .entry)) ⌝ }
 {
     let selection = cells::byte_at(bytes, 10);
-    if selection >= 3 {
-        return false;
-    }
-    if selection == 2 {
-        return true;
-    }
-    pair_at(bytes, 12) == 0
+    selection < 3 && (selection == 2 || pair_at(bytes, 12) == 0)
 }
 
 // Whether bytes encode a held state.
@@ -184,13 +178,7 @@ fn encodes_held(bytes: &[u8]) -> bool
     if cells::byte_at(bytes, 11) != 1 {
         return false;
     }
-    if !flags_fit(bytes) {
-        return false;
-    }
-    if !selection_fits(bytes) {
-        return false;
-    }
-    zeros_from(bytes, 24)
+    flags_fit(bytes) && (selection_fits(bytes) && zeros_from(bytes, 24))
 }
 
 fn selection_in(bytes: &[u8]) -> Selection
@@ -247,13 +235,10 @@ fn channel_in(bytes: &[u8]) -> Channel
 fn held_in(bytes: &[u8]) -> Held
     ensures { λ r. ⌜ r ≡ decoded (now (bytes .entry)) ⌝ }
 {
-    let stands = stands_in(bytes);
-    let orders = orders_in(bytes);
-    let channel = channel_in(bytes);
     Held {
-        stands,
-        orders,
-        channel,
+        stands: stands_in(bytes),
+        orders: orders_in(bytes),
+        channel: channel_in(bytes),
     }
 }
 
@@ -270,10 +255,7 @@ pub fn keep(bytes: &[u8]) -> Kept
 fn bit_of(b: bool) -> u8
     ensures { λ r. ⌜ r ≡ bit b ⌝ }
 {
-    if b {
-        return 1;
-    }
-    0
+    if b { 1 } else { 0 }
 }
 
 fn high(n: u16) -> u8

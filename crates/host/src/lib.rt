@@ -84,31 +84,20 @@ pub fn number_of(a: Answer) -> u8
 fn storage_fits(n: usize) -> bool
     ensures { λ r. ⌜ r ≡ storageFits n ⌝ }
 {
-    if n < LEAST_STORAGE {
-        return false;
-    }
-    n <= MOST_STORAGE
+    LEAST_STORAGE <= n && n <= MOST_STORAGE
 }
 
 fn stands_fit(g: Shape, s: Stands) -> bool
     ensures { λ r. ⌜ r ≡ standsFit g s ⌝ }
 {
-    if g.cylinders <= s.cylinder.0 as u32 {
-        return false;
-    }
-    if g.heads <= s.head.0 as u32 {
-        return false;
-    }
-    s.place <= TRACK_CELLS
+    let cylinder = s.cylinder.0 as u32;
+    cylinder < g.cylinders && ((s.head.0 as u32) < g.heads && s.place <= TRACK_CELLS)
 }
 
 fn channel_fits(c: Channel) -> bool
     ensures { λ r. ⌜ r ≡ channelFits c ⌝ }
 {
-    if KEYS <= c.key {
-        return false;
-    }
-    c.next < ADDRESSES
+    c.key < KEYS && c.next < ADDRESSES
 }
 
 fn selection_fits(track: &[u16], o: Orders, x: Selection) -> bool
@@ -132,14 +121,8 @@ fn spot_fits(track: &[u16], spot: Spot) -> bool
 fn orders_fit(track: &[u16], o: Orders) -> bool
     ensures { λ r. ⌜ r ≡ ordersFit (marks (now (track .entry))) o ⌝ }
 {
-    if !mask::is_legal(o.mask) {
-        return false;
-    }
-    if MOST_TALLY < o.tally {
-        return false;
-    }
     let selection = o.selection;
-    selection_fits(track, o, selection)
+    mask::is_legal(o.mask) && (o.tally <= MOST_TALLY && selection_fits(track, o, selection))
 }
 
 // Refusal 4. It looks at one track at most.

@@ -5,24 +5,18 @@ use borrow.Author.Needs.{needs}
 use Rattle.held.proofs.selection_fits.Statement.{statement}
 use Rattle.held.proofs.selection_fits.Tie as tie
 
-byte-at-requires : tie.Need-byte-at-requires
-byte-at-requires c κs = search needs
-
 returns : tie.Need-returns
 unfolding selectionFits
-returns c = rw (← c .before .byte-at .ensures) (search tests)
+returns c = rw (← c .before .before .byte-at .ensures) (search tests)
 
 returns-2 : tie.Need-returns-2
 unfolding selectionFits
-returns-2 c = rw (← c .before .before .byte-at .ensures) (search tests)
-
-pair-at-requires : tie.Need-pair-at-requires
-pair-at-requires c κs = search needs
+returns-2 c = rw (← c .before .before .before .byte-at .ensures, ← c .pair-at .ensures) (search tests)
 
 returns-3 : tie.Need-returns-3
 unfolding selectionFits
-returns-3 c = rw (← c .before .before .before .byte-at .ensures, ← c .pair-at .ensures) (search tests)
+returns-3 c = rw (← c .before .byte-at .ensures) (search tests)
 
 pub selection-fits-spec : {M : Type 1} → statement M
 selection-fits-spec =
-    tie.close (tie.spec byte-at-requires returns returns-2 pair-at-requires returns-3)
+    tie.close (tie.spec (λ c κs. search needs) (λ c κs. search needs) returns returns-2 returns-3)

@@ -5,15 +5,9 @@ use borrow.Author.Needs.{needs}
 use Rattle.host.proofs.stands_fit.Statement.{statement}
 use Rattle.host.proofs.stands_fit.Tie as tie
 
-cast-if1 : tie.Need-cast-if1
-cast-if1 c = search needs
-
 returns : tie.Need-returns
 unfolding standsFit
 returns c = search tests
-
-cast-if2 : tie.Need-cast-if2
-cast-if2 c = search needs
 
 returns-2 : tie.Need-returns-2
 unfolding standsFit
@@ -24,4 +18,4 @@ unfolding standsFit
 returns-3 c = search tests
 
 pub stands-fit-spec : {M : Type 1} → statement M
-stands-fit-spec = tie.close (tie.spec cast-if1 returns cast-if2 returns-2 returns-3)
+stands-fit-spec = tie.close (tie.spec (λ c. search needs) (λ c. search needs) returns returns-2 returns-3)
