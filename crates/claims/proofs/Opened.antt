@@ -1,4 +1,5 @@
 -- What the examples compute with. To unfold one of these is to unfold all that its line names.
+use Rattle.rows.specs.Rows as Rows
 use Rattle.cells.specs.Bytes.{part, overlay, padded, numberFrom}
 use Rattle.cells.specs.Cells.{bytesOf, cellsOf, allBytes, marksFrom, marks}
 use Rattle.house_check.specs.Check as Check
@@ -38,7 +39,7 @@ track = tt
 
 -- a command
 unfoldable pub command : Unit {0}
-unfolding track legal seeksBarred barsSeek writesBarred barsWrite senseOf seekTo seekHead compared standing sensing sought ordered after areaIf named namedBy seeing idOf sent equalId equalIdOrKey homeDone recordWritten satisfies found equalOnly newCounts newKey newData newRecord recorded Table.controls Table.searches Table.reads Table.writes Table.find Table.ruleOf Table.looks Table.servesData Table.servesKey Table.isHome Turn.given Turn.movingOf Turn.wants Turn.toldOf Turn.rowTakes Turn.isCheck Turn.checks Command.marksOf Command.licensed Command.tallies Command.onRecord Command.onNext Command.onSelected Command.toNext Command.toServed Command.aimed Command.unlessBarred Command.plans Command.liesOn Command.areasOf Command.allRead Command.countsIn Command.gets Command.saw Command.writesOver Command.goesOver Command.allRecorded Command.areasRead Command.sight Command.fails Command.senseAfter Command.standsAfter Command.ordersAfter Command.endsAt Command.ends Command.endingOf Command.rests Command.senseBytes Command.senses Command.soughtBy Command.addressed Command.arrives Command.seeks Command.masked Command.masks Command.spacedPlace Command.spaces Command.fieldOf Command.comparison Command.satisfied Command.wholly Command.comparesWith Command.compares Command.offered Command.gives Command.piece Command.toEnd Command.laysHome Command.recordTakes Command.laysNew Command.laysR0 Command.laysRecord Command.over Command.keySent Command.updates Command.does Command.lays Command.acts Command.hasRead Command.readyBy Command.planReads Command.turnBy Command.obeys Command.command
+unfolding track legal seeksBarred barsSeek writesBarred barsWrite senseOf seekTo seekHead compared standing sensing sought ordered after areaIf named namedBy seeing idOf sent equalId equalIdOrKey homeDone recordWritten satisfies found equalOnly newCounts newKey newData newRecord recorded Table.controls Table.searches Table.reads Table.writes Table.find Table.ruleOf Table.looks Table.servesData Table.servesKey Table.isHome Turn.given Turn.movingOf Turn.wants Turn.toldOf Rows.rowTakes Turn.isCheck Turn.checks Command.marksOf Command.licensed Command.tallies Command.onRecord Command.onNext Command.onSelected Command.toNext Command.toServed Command.aimed Command.unlessBarred Command.plans Command.liesOn Command.areasOf Command.allRead Command.countsIn Command.gets Command.saw Command.writesOver Command.goesOver Command.allRecorded Command.areasRead Command.sight Command.fails Command.senseAfter Command.standsAfter Command.ordersAfter Command.endsAt Command.ends Command.endingOf Command.rests Command.senseBytes Command.senses Command.soughtBy Command.addressed Command.arrives Command.seeks Command.masked Command.masks Command.spacedPlace Command.spaces Command.fieldOf Command.comparison Command.satisfied Command.wholly Command.comparesWith Command.compares Command.offered Command.gives Command.piece Command.toEnd Command.laysHome Command.recordTakes Command.laysNew Command.laysR0 Command.laysRecord Command.over Command.keySent Command.updates Command.does Command.lays Command.acts Command.hasRead Command.readyBy Command.planReads Command.turnBy Command.obeys Command.command
 command = tt
 
 -- the box: the channel, a chain, what the host hears
