@@ -15,8 +15,7 @@ use Rattle.cells.specs.Bytes.{part, be16}
 use Rattle.cells.specs.Cells.{byteOf, bytesOf, allBytes}
 use Rattle.cells.proofs.Laws.{getD-bytesOf}
 use Rattle.house_check.specs.Area.{agrees, goodCells}
-use Rattle.areas.specs.declared.Area.{Area}
-use Rattle.areas.specs.declared.Counts.{Counts}
+use Rattle.areas.specs.declared.{Area.Area, Counts.Counts}
 use Rattle.areas.specs.declared.Part.the-variants.{Data}
 use Rattle.areas.specs.declared.CountRead.the-variants.{Reads, Fails}
 use Rattle.areas.specs.Areas.{area, homeArea, homeFlag, countCells, readCount, dataBytes, dataArea, areaCells, readable, areaBytes, countArea, countsOf, countsAt, keyCells}

@@ -9,14 +9,8 @@ use Rattle.cells.specs.Choice.{pick}
 use Rattle.cells.specs.Bytes.{be16, part}
 use Rattle.cells.specs.Cells.{bytesOf}
 use Rattle.house_check.specs.Area.{checkBytes, goodCells}
-use Rattle.rows.specs.declared.Row.{Row}
-use Rattle.rows.specs.declared.Row.the-variants.{Unreadable, UnreadableCount}
-use Rattle.areas.specs.declared.Part.{Part}
-use Rattle.areas.specs.declared.Part.the-variants.{Home, Count, Key, Data}
-use Rattle.areas.specs.declared.Area.{Area}
-use Rattle.areas.specs.declared.Counts.{Counts}
-use Rattle.areas.specs.declared.CountRead.{CountRead}
-use Rattle.areas.specs.declared.CountRead.the-variants.{Reads, Fails}
+use Rattle.rows.specs.declared.{Row.Row}
+use Rattle.areas.specs.declared.{Part.Part, Area.Area, Counts.Counts, CountRead.CountRead}
 
 -- ---- an area
 
@@ -37,10 +31,10 @@ areaBytes t a = take (a .bytes) (bytesOf (areaCells t a))
 
 -- the Unit Check row of an area that is not readable
 unfoldable pub rowOf : Part → Row
-rowOf Home = Unreadable
-rowOf Count = UnreadableCount
-rowOf Key = Unreadable
-rowOf Data = Unreadable
+rowOf Part.Home = Row.Unreadable
+rowOf Part.Count = Row.UnreadableCount
+rowOf Part.Key = Row.Unreadable
+rowOf Part.Data = Row.Unreadable
 
 -- ---- home address: flag, cylinder (2 bytes), head (2)
 
@@ -48,7 +42,7 @@ abbrev pub homeBytes : ℕ
 homeBytes = 5
 
 abbrev pub homeArea : Area
-homeArea = area Home 0 homeBytes
+homeArea = area Part.Home 0 homeBytes
 
 -- its flag byte
 abbrev pub homeFlag : List ℕ → ℕ
@@ -67,7 +61,7 @@ abbrev pub countCells : ℕ
 countCells = countBytes + checkBytes
 
 abbrev pub countArea : ℕ → Area
-countArea c = area Count c countBytes
+countArea c = area Part.Count c countBytes
 
 unfoldable pub countsOf : List ℕ → Counts
 countsOf v = record {
@@ -85,7 +79,7 @@ countsAt t c = countsOf (areaBytes t (countArea c))
 
 -- a count is used only if its area is readable
 unfoldable pub readCount : List ℕ → ℕ → CountRead
-readCount t c = pick (readable t (countArea c)) (Reads (countsAt t c)) Fails
+readCount t c = pick (readable t (countArea c)) (CountRead.Reads (countsAt t c)) CountRead.Fails
 
 -- ---- key area KL + 2 bytes, absent if KL = 0; data area DL + 2, one zero byte and the check if DL = 0
 
@@ -96,10 +90,10 @@ abbrev pub dataBytes : Counts → ℕ
 dataBytes n = max 1 (n .dl)
 
 unfoldable pub keyArea : ℕ → Counts → Area
-keyArea c n = area Key (c + countCells) (n .kl)
+keyArea c n = area Part.Key (c + countCells) (n .kl)
 
 unfoldable pub dataArea : ℕ → Counts → Area
-dataArea c n = area Data (c + countCells + keyCells n) (dataBytes n)
+dataArea c n = area Part.Data (c + countCells + keyCells n) (dataBytes n)
 
 -- ---- a record, from its count area on
 

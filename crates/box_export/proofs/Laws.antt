@@ -8,14 +8,13 @@ use lib.Dec.{eqb}
 use borrow.Author.Tests.{eq-eqb, eqb-true}
 use Rattle.cells.proofs.Tests.{first-of}
 use Rattle.cells.specs.Choice.{pick}
-use Rattle.pack.specs.declared.Shape.{Shape}
-use Rattle.held.specs.declared.Held.{Held}
-use Rattle.held.specs.declared.Kept.{Kept}
+use Rattle.pack.specs.declared.{Shape.Shape}
+use Rattle.held.specs.declared.{Held.Held, Kept.Kept}
 use Rattle.held.specs.declared.Kept.the-variants.{Holds, Wrong}
 use Rattle.held.specs.Bytes.{heldBytes, encoded, encodes, kept, bit}
 use Rattle.held.proofs.Inverse.{says}
 use Rattle.chain.specs.Step.{world}
-use Rattle.host.specs.declared.Answer.{Answer}
+use Rattle.host.specs.declared.{Answer.Answer}
 use Rattle.host.specs.Host.{Hears, hears, answerNo, wrongHeld, starts, goes}
 use Rattle.box_export.specs.Calls.{call, told, startKept, startCall, goKept, goCall}
 

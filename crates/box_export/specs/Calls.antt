@@ -3,9 +3,8 @@
 use Prim.Native.Nat.{ℕ}
 use mathlib.Core.List.{List}
 use lib.ListN.{length}
-use Rattle.pack.specs.declared.Shape.{Shape}
-use Rattle.held.specs.declared.Kept.{Kept}
-use Rattle.held.specs.declared.Kept.the-variants.{Holds, Wrong}
+use Rattle.pack.specs.declared.{Shape.Shape}
+use Rattle.held.specs.declared.{Kept.Kept}
 use Rattle.held.specs.Bytes.{encoded, kept}
 use Rattle.chain.specs.Step.{world}
 use Rattle.host.specs.Host.{Hears, answerNo, wrongHeld, starts, goes}
@@ -28,15 +27,15 @@ told x = call (answerNo (x .answer)) (encoded (x .left .held)) (x .left .storage
 
 -- bytes that encode no held state are refused in refusal 4's place; all is left unchanged
 unfoldable pub startKept : Shape → List ℕ → List ℕ → List ℕ → Kept → Call
-startKept g v s c (Holds h) = told (starts g (world h s c))
-startKept g v s c Wrong = call (answerNo (wrongHeld g (length s) (length c))) v s c
+startKept g v s c (Kept.Holds h) = told (starts g (world h s c))
+startKept g v s c Kept.Wrong = call (answerNo (wrongHeld g (length s) (length c))) v s c
 
 unfoldable pub startCall : Shape → List ℕ → List ℕ → List ℕ → Call
 startCall g v s c = startKept g v s c (kept v)
 
 unfoldable pub goKept : Shape → ℕ → List ℕ → List ℕ → List ℕ → Kept → Call
-goKept g n v s c (Holds h) = told (goes g n (world h s c))
-goKept g n v s c Wrong = call (answerNo (wrongHeld g (length s) (length c))) v s c
+goKept g n v s c (Kept.Holds h) = told (goes g n (world h s c))
+goKept g n v s c Kept.Wrong = call (answerNo (wrongHeld g (length s) (length c))) v s c
 
 unfoldable pub goCall : Shape → ℕ → List ℕ → List ℕ → List ℕ → Call
 goCall g n v s c = goKept g n v s c (kept v)

@@ -9,17 +9,14 @@ use Rattle.cells.specs.Cells.{trackCells}
 use Rattle.cells.proofs.Tests.{first-of, second-of, both-of}
 use Rattle.mask.specs.Mask.{legal}
 use Rattle.words.specs.Words.{addresses}
-use Rattle.pack.specs.declared.Shape.{Shape}
+use Rattle.pack.specs.declared.{Shape.Shape}
 use Rattle.pack.specs.Shapes.{cylinderOn, headOn}
 use Rattle.pack.specs.Tracks as Tracks
 use Rattle.command.specs.Command.{mostTally, SelectedOn}
 use Rattle.command.proofs.Plans.{Leaves}
 use Rattle.table.specs.Table.{ruleOf}
-use Rattle.held.specs.declared.Selection.{Selection}
+use Rattle.held.specs.declared.{Selection.Selection, Stands.Stands, Orders.Orders, Channel.Channel}
 use Rattle.held.specs.declared.Selection.the-variants.{Nothing, On}
-use Rattle.held.specs.declared.Stands.{Stands}
-use Rattle.held.specs.declared.Orders.{Orders}
-use Rattle.held.specs.declared.Channel.{Channel}
 use Rattle.turn.specs.Turn.{ordered}
 use Rattle.chain.specs.Legal.{keys, standsFit, channelFits, selectionFits, ordersFit}
 

@@ -12,51 +12,34 @@ use Rattle.cells.specs.Bytes.{padded}
 use Rattle.cells.specs.Cells.{trackCells, marker, marks}
 use Rattle.cells.proofs.Marks.{getD-marks, mark-here}
 use Rattle.cells.proofs.Tests.{pick-all, first-of, second-of}
-use Rattle.rows.specs.declared.Row.{Row}
-use Rattle.rows.specs.declared.Row.the-variants as Row
-use Rattle.mask.specs.declared.Seeking.{Seeking}
-use Rattle.mask.specs.declared.Seeking.the-variants as Seeking
+use Rattle.rows.specs.declared.{Row.Row}
+use Rattle.mask.specs.declared.{Seeking.Seeking}
 use Rattle.mask.specs.Mask.{legal}
 use Rattle.house_check.specs.Area as Area
-use Rattle.areas.specs.declared.Counts.{Counts}
+use Rattle.areas.specs.declared.{Counts.Counts}
 use Rattle.areas.specs.Areas.{homeBytes, zeroFirst, keyArea, dataArea, recordCells, endBy, needed}
-use Rattle.hunt.specs.declared.Spot.{Spot}
-use Rattle.hunt.specs.declared.Spot.the-variants as Spot
+use Rattle.hunt.specs.declared.{Spot.Spot}
 use Rattle.hunt.specs.Hunt.{Whole, spotFits, spaceRecord}
-use Rattle.pack.specs.declared.Head.{Head}
+use Rattle.pack.specs.declared.{Head.Head, Shape.Shape, Sought.Sought}
 use Rattle.hunt.proofs.Inside.{space-in}
 use Rattle.room.specs.Room.{fits}
 use Rattle.room.proofs.Laws.{fits-ends}
-use Rattle.pack.specs.declared.Shape.{Shape}
-use Rattle.pack.specs.declared.Sought.{Sought}
-use Rattle.pack.specs.declared.Sought.the-variants as Sought
 use Rattle.pack.proofs.Seeks.{SoughtOn, seek-to-on, seek-head-on}
-use Rattle.held.specs.declared.Selection.{Selection}
+use Rattle.held.specs.declared.{Selection.Selection, Stands.Stands, Orders.Orders}
 use Rattle.held.specs.declared.Selection.the-variants.{Nothing, On}
-use Rattle.held.specs.declared.Stands.{Stands}
-use Rattle.held.specs.declared.Orders.{Orders}
-use Rattle.turn.specs.declared.Ending.{Ending}
+use Rattle.turn.specs.declared.{Ending.Ending}
 use Rattle.turn.specs.declared.Ending.the-variants.{Normal}
 use Rattle.turn.specs.Turn.{standing, sensing, sought, after}
 use Rattle.laying.specs.Laying.{newCounts, newRecord, formatted}
 use Rattle.laying.proofs.Laws.{length-area, length-new, formatted-inside}
 use Rattle.command.specs.Command.{mostTally}
 use Rattle.command.specs.Command.{named}
-use Rattle.command.specs.declared.Got.{Got}
+use Rattle.command.specs.declared.{Got.Got, Task.Task, Job.Job, Plan.Plan}
 use Rattle.command.specs.declared.Got.the-variants.{Sees, Fails}
-use Rattle.table.specs.declared.Control.{Control}
-use Rattle.table.specs.declared.Control.the-variants as Control
-use Rattle.table.specs.declared.Write.{Write}
-use Rattle.table.specs.declared.Write.the-variants as Write
-use Rattle.table.specs.declared.Act.{Act}
-use Rattle.table.specs.declared.Act.the-variants as Act
-use Rattle.table.specs.declared.Rule.{Rule}
+use Rattle.table.specs.declared.{Control.Control, Write.Write, Act.Act, Rule.Rule}
 use Rattle.table.specs.Table.{ruleOf, isHome, controls, searches, reads, writes}
 use Rattle.table.proofs.Laws.{every, each, of-every}
 use Rattle.turn.specs.Turn.{Tracks, Lies, Piece, Moves, Takes, Turn, laid, checks}
-use Rattle.command.specs.declared.Task.{Task}
-use Rattle.command.specs.declared.Job.{Job}
-use Rattle.command.specs.declared.Plan.{Plan}
 use Rattle.command.specs.declared.Plan.the-variants.{Refuses, Works}
 use Rattle.command.specs.Command.{Marks, marksOf, plans, Sight, sight, allRecorded, goesOver, writesOver, fails, standsAfter, ordersAfter, endsAt, ends, endingOf, rests, senses, soughtBy, addressed, arrives, seeks, masked, masks, spacedPlace, spaces, comparesWith, compares, gives, piece, toEnd, laysHome, recordTakes, laysNew, laysR0, laysRecord, over, keySent, updates, does, lays, acts, jobOf, hasRead, readyBy, turnBy, obeys, command, task}
 use Rattle.command.proofs.Plans.{selectsOne, not-true, isR0, Leaves, NoMarker, TaskOn, PlanOn, PlanFree, plan-on, none-free, r0-free}

@@ -12,20 +12,16 @@ use Rattle.cells.specs.Cells.{trackCells, marks}
 use Rattle.cells.proofs.Laws.{length-overlay, part-overlay}
 use Rattle.cells.proofs.Tests.{pick-all}
 use Rattle.mask.specs.Mask.{legal}
-use Rattle.words.specs.declared.Word.{Word}
-use Rattle.words.specs.declared.Tested.{Tested}
+use Rattle.words.specs.declared.{Word.Word, Tested.Tested, Status.Status, Cause.Cause}
 use Rattle.words.specs.declared.Tested.the-variants.{Obey, Jump, Bad}
-use Rattle.words.specs.declared.Status.{Status}
-use Rattle.words.specs.declared.Cause.{Cause}
 use Rattle.words.specs.Words.{Reaches}
 use Rattle.words.specs.Status.{stored, statusBytes, statusAt}
 use Rattle.words.proofs.Obeys.{TestedIn, tested-in}
-use Rattle.pack.specs.declared.Shape.{Shape}
+use Rattle.pack.specs.declared.{Shape.Shape}
 use Rattle.pack.specs.Tracks.{startOf, trackAt, withTrack}
 use Rattle.pack.proofs.Laws.{length-track, start-inside}
 use Rattle.hunt.specs.Hunt as Hunt
-use Rattle.held.specs.declared.Stands.{Stands}
-use Rattle.held.specs.declared.Held.{Held}
+use Rattle.held.specs.declared.{Stands.Stands, Held.Held}
 use Rattle.held.specs.Held.{fresh, freshOrders, freshChannel, rested}
 use Rattle.turn.specs.Turn.{ordered}
 use Rattle.channel.specs.Channel.{onward, stride}

@@ -7,9 +7,7 @@ use lib.ListN.{length}
 use Rattle.cells.specs.Bytes.{overlay}
 use Rattle.cells.specs.Cells.{trackCells}
 use Rattle.cells.proofs.Laws.{length-overlay, overlay-same}
-use Rattle.pack.specs.declared.Cylinder.{Cylinder}
-use Rattle.pack.specs.declared.Head.{Head}
-use Rattle.pack.specs.declared.Shape.{Shape}
+use Rattle.pack.specs.declared.{Cylinder.Cylinder, Head.Head, Shape.Shape}
 use Rattle.pack.specs.Tracks.{startOf, trackAt, withTrack}
 use Rattle.pack.proofs.Laws.{length-track}
 use Rattle.turn.specs.Turn.{Piece, laid}

@@ -12,15 +12,12 @@ use lib.Seq.{take-nil}
 use Rattle.cells.specs.Bytes.{overlay}
 use Rattle.cells.proofs.Laws.{overlay-none}
 use Rattle.cells.proofs.Tests.{first-of, second-of, first-picked}
-use Rattle.words.specs.declared.Word.{Word}
-use Rattle.words.specs.declared.Tested.{Tested}
+use Rattle.words.specs.declared.{Word.Word, Tested.Tested}
 use Rattle.words.specs.declared.Tested.the-variants.{Obey, Jump, Bad}
 use Rattle.words.specs.Words as Words
 use Rattle.words.specs.Words.{along, chains, isTic, wordAt, testedWord, tested}
-use Rattle.pack.specs.declared.Shape.{Shape}
-use Rattle.held.specs.declared.Stands.{Stands}
-use Rattle.held.specs.declared.Held.{Held}
-use Rattle.held.specs.declared.Orders.{Orders}
+use Rattle.pack.specs.declared.{Shape.Shape}
+use Rattle.held.specs.declared.{Stands.Stands, Held.Held, Orders.Orders}
 use Rattle.held.specs.declared.Selection.the-variants.{Nothing}
 use Rattle.turn.specs.declared.Ending.the-variants.{Normal}
 use Rattle.turn.specs.Turn.{standing, after, ordered}

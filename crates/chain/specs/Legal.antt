@@ -10,16 +10,12 @@ use Rattle.cells.specs.Cells.{trackCells, marks}
 use Rattle.mask.specs.Mask.{legal}
 use Rattle.words.specs.Words.{addresses}
 use Rattle.hunt.specs.Hunt.{spotFits}
-use Rattle.pack.specs.declared.Shape.{Shape}
+use Rattle.pack.specs.declared.{Shape.Shape}
 use Rattle.pack.specs.Shapes.{cylinderOn, headOn}
 use Rattle.pack.specs.Tracks.{Whole}
 use Rattle.command.specs.Command.{mostTally}
 use Rattle.table.specs.Table.{ruleOf}
-use Rattle.held.specs.declared.Selection.{Selection}
-use Rattle.held.specs.declared.Selection.the-variants.{Nothing, On}
-use Rattle.held.specs.declared.Stands.{Stands}
-use Rattle.held.specs.declared.Orders.{Orders}
-use Rattle.held.specs.declared.Channel.{Channel}
+use Rattle.held.specs.declared.{Selection.Selection, Stands.Stands, Orders.Orders, Channel.Channel}
 use Rattle.chain.specs.Step.{World, selected}
 
 -- 2: the least storage, for the words at 64 and 72; the most
@@ -42,8 +38,8 @@ channelFits c = both (ltb (c .key) keys) (ltb (c .next) addresses)
 
 -- a selection that is neither R0 nor a marker, or is missing where the command before leaves one
 unfoldable pub selectionFits : List Bool → Orders → Selection → Bool
-selectionFits m o Nothing = not (ruleOf (o .before) .selects)
-selectionFits m o (On spot) = spotFits m spot
+selectionFits m o Selection.Nothing = not (ruleOf (o .before) .selects)
+selectionFits m o (Selection.On spot) = spotFits m spot
 
 -- illegal mask, tally over 1
 unfoldable pub ordersFit : List Bool → Orders → Bool

@@ -4,16 +4,12 @@ use mathlib.Core.Bool.{Bool, true, false}
 use mathlib.Core.List.{List, [], _∷_}
 use Rattle.cells.specs.Choice.{pick}
 use Rattle.cells.specs.Bytes.{overlay}
-use Rattle.words.specs.declared.Word.{Word}
-use Rattle.words.specs.declared.Cause.{Cause}
-use Rattle.words.specs.declared.Tested.{Tested}
-use Rattle.words.specs.declared.Tested.the-variants.{Obey, Jump, Bad}
+use Rattle.words.specs.declared.{Word.Word, Cause.Cause, Tested.Tested}
 use Rattle.words.specs.Words.{along, tested}
 use Rattle.words.specs.Status.{stored, programCheck}
-use Rattle.pack.specs.declared.Cylinder.{Cylinder}
-use Rattle.pack.specs.declared.Shape.{Shape}
+use Rattle.pack.specs.declared.{Cylinder.Cylinder, Shape.Shape}
 use Rattle.pack.specs.Tracks.{startOf, trackAt}
-use Rattle.held.specs.declared.Held.{Held}
+use Rattle.held.specs.declared.{Held.Held}
 use Rattle.held.specs.Held.{rested}
 use Rattle.table.specs.Table.{isWrite, ruleOf}
 use Rattle.turn.specs.Turn.{Tracks, Lies, Piece, Turn, toldOf}
@@ -79,9 +75,9 @@ unfoldable pub obeyed : Shape → World → Word → World
 obeyed g w d = settled g w d (turnOf g w d)
 
 unfoldable pub takes : Shape → World → Tested → World
-takes g w (Obey d) = obeyed g w d
-takes g w (Jump a) = world (jumped (w .held) a) (w .storage) (w .cells)
-takes g w (Bad cause) = stops w cause
+takes g w (Tested.Obey d) = obeyed g w d
+takes g w (Tested.Jump a) = world (jumped (w .held) a) (w .storage) (w .cells)
+takes g w (Tested.Bad cause) = stops w cause
 
 unfoldable pub step : Shape → World → World
 step g w = takes g w (next w)
@@ -94,14 +90,14 @@ run g (suc n) w = pick (w .held .channel .going) (run g n (step g w)) w
 -- ---- of the next word: the areas that it reads, and whether it is a write, 19, 15, 1D, 05 or 0D
 
 unfoldable pub testedReads : Shape → World → Tested → List Lies
-testedReads g w (Obey d) = turnOf g w d .reads
-testedReads g w (Jump a) = []
-testedReads g w (Bad cause) = []
+testedReads g w (Tested.Obey d) = turnOf g w d .reads
+testedReads g w (Tested.Jump a) = []
+testedReads g w (Tested.Bad cause) = []
 
 unfoldable pub wordReads : Shape → World → List Lies
 wordReads g w = testedReads g w (next w)
 
 unfoldable pub testedWrites : Tested → Bool
-testedWrites (Obey d) = isWrite (ruleOf (d .code) .act)
-testedWrites (Jump a) = false
-testedWrites (Bad cause) = false
+testedWrites (Tested.Obey d) = isWrite (ruleOf (d .code) .act)
+testedWrites (Tested.Jump a) = false
+testedWrites (Tested.Bad cause) = false

@@ -6,13 +6,10 @@ use mathlib.Core.Bool.{Bool, false}
 use mathlib.Core.List.{List}
 use lib.Dec.{eqb}
 use Rattle.cells.specs.Choice.{both}
-use Rattle.words.specs.declared.Word.{Word}
-use Rattle.words.specs.declared.Tested.{Tested}
-use Rattle.words.specs.declared.Tested.the-variants.{Obey, Jump, Bad}
+use Rattle.words.specs.declared.{Word.Word, Tested.Tested}
 use Rattle.words.specs.Words.{chains}
-use Rattle.pack.specs.declared.Shape.{Shape}
-use Rattle.held.specs.declared.Held.{Held}
-use Rattle.held.specs.declared.Selection.the-variants.{Nothing}
+use Rattle.pack.specs.declared.{Shape.Shape}
+use Rattle.held.specs.declared.{Held.Held, Selection.Selection}
 use Rattle.turn.specs.Turn.{after}
 use Rattle.chain.specs.Step.{world, run}
 use Rattle.chain.specs.Legal.{Legal}
@@ -22,15 +19,15 @@ unfoldable pub passes : Word → Bool
 passes w = both (eqb (w .code) 0x03) (chains w)
 
 unfoldable pub passing : Tested → Bool
-passing (Obey w) = passes w
-passing (Jump a) = false
-passing (Bad cause) = false
+passing (Tested.Obey w) = passes w
+passing (Tested.Jump a) = false
+passing (Tested.Bad cause) = false
 
 -- what is held after No-ops, with this next word
 unfoldable pub passed : Held → ℕ → Held
 passed h next = record {
   stands = h .stands;
-  orders = after (h .orders) 0x03 false 0 Nothing;
+  orders = after (h .orders) 0x03 false 0 Selection.Nothing;
   channel = record { going = h .channel .going; key = h .channel .key; next = next; «after_tic» = false };
 }
 

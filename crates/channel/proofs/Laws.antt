@@ -9,14 +9,13 @@ use lib.ListN.{length}
 use lib.Dec.{ltb, eqb}
 use borrow.Author.Tests.{eq-eqb, ne-eqb, lt-ltb, le-ltb}
 use Rattle.cells.specs.Choice.{pick, both, either}
-use Rattle.words.specs.declared.Word.{Word}
-use Rattle.words.specs.declared.Status.{Status}
+use Rattle.words.specs.declared.{Word.Word, Status.Status}
 use Rattle.words.specs.Words.{chains, suppresses}
 use Rattle.words.specs.Status.{Storable, stored, statusFor}
-use Rattle.held.specs.declared.Channel.{Channel}
+use Rattle.held.specs.declared.{Channel.Channel}
 use Rattle.held.specs.Held.{rested}
 use Rattle.channel.specs.Channel.{endsWell, stride, onward}
-use Rattle.turn.specs.declared.Told.{Told}
+use Rattle.turn.specs.declared.{Told.Told}
 use Rattle.turn.specs.Turn.{wants}
 use Rattle.channel.specs.Channel.{moved, lengthCounts, wrongLength, goesOn, statusAfter, heldAfter, withStatus}
 

@@ -12,20 +12,14 @@ use Rattle.cells.specs.Bytes.{part, overlay}
 use native.Mathlib.Nat.{add-zero}
 use Rattle.cells.proofs.Laws.{length-part, length-overlay, overlay-none, overlay-same}
 use Rattle.channel.proofs.Parts.{overlay-inner}
-use Rattle.rows.specs.declared.Row.{Row}
-use Rattle.words.specs.declared.Word.{Word}
+use Rattle.rows.specs.declared.{Row.Row}
+use Rattle.words.specs.declared.{Word.Word}
 use Rattle.words.specs.Words.{Reaches}
-use Rattle.pack.specs.declared.Shape.{Shape}
-use Rattle.held.specs.declared.Held.{Held}
-use Rattle.held.specs.declared.Stands.{Stands}
-use Rattle.held.specs.declared.Orders.{Orders}
-use Rattle.turn.specs.declared.Moving.{Moving}
-use Rattle.turn.specs.declared.Moving.the-variants as Moving
-use Rattle.turn.specs.declared.Told.{Told}
+use Rattle.pack.specs.declared.{Shape.Shape}
+use Rattle.held.specs.declared.{Held.Held, Stands.Stands, Orders.Orders}
+use Rattle.turn.specs.declared.{Moving.Moving, Told.Told}
 use Rattle.turn.specs.Turn.{Lies, Piece, Moves, None, Gives, Takes, alone, given, movingOf, filled, Turn, toldOf, laid, isCheck, checks}
-use Rattle.command.specs.declared.Job.{Job}
-use Rattle.command.specs.declared.Ready.{Ready}
-use Rattle.command.specs.declared.Ready.the-variants as Ready
+use Rattle.command.specs.declared.{Job.Job, Ready.Ready}
 use Rattle.command.specs.Command.{sight, acts, readies}
 use Rattle.command.proofs.Moves.{LaysBy, Lays, acts-lay, checks-lay, check-lays}
 use Rattle.command.proofs.Comes.{job-acts, row-ends}

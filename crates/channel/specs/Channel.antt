@@ -7,19 +7,13 @@ use lib.ListN.{take}
 use lib.Dec.{ltb}
 use Rattle.cells.specs.Choice.{pick, both, either}
 use Rattle.cells.specs.Bytes.{part, overlay}
-use Rattle.words.specs.declared.Word.{Word}
-use Rattle.words.specs.declared.Status.{Status}
+use Rattle.words.specs.declared.{Word.Word, Status.Status}
 use Rattle.words.specs.Words.{along, chains, suppresses}
 use Rattle.words.specs.Status.{stored, statusFor}
-use Rattle.pack.specs.declared.Shape.{Shape}
-use Rattle.held.specs.declared.Channel.{Channel}
-use Rattle.held.specs.declared.Held.{Held}
+use Rattle.pack.specs.declared.{Shape.Shape}
+use Rattle.held.specs.declared.{Channel.Channel, Held.Held}
 use Rattle.held.specs.Held.{rested}
-use Rattle.turn.specs.declared.Ending.{Ending}
-use Rattle.turn.specs.declared.Ending.the-variants.{Normal, Satisfied, Exception, Check}
-use Rattle.turn.specs.declared.Moving.{Moving}
-use Rattle.turn.specs.declared.Moving.the-variants as Moving
-use Rattle.turn.specs.declared.Told.{Told}
+use Rattle.turn.specs.declared.{Ending.Ending, Moving.Moving, Told.Told}
 use Rattle.turn.specs.Turn.{alone, given, wants, Turn, toldOf, isCheck, laid}
 use Rattle.command.specs.Command.{command}
 
@@ -54,24 +48,24 @@ wrongLength w d =
 
 -- normal end 0C, search satisfied 4C, Unit Exception 0D, Unit Check 0E
 unfoldable pub unitStatus : Ending → ℕ
-unitStatus Normal = 0x0C
-unitStatus Satisfied = 0x4C
-unitStatus Exception = 0x0D
-unitStatus (Check row) = 0x0E
+unitStatus Ending.Normal = 0x0C
+unitStatus Ending.Satisfied = 0x4C
+unitStatus Ending.Exception = 0x0D
+unitStatus (Ending.Check row) = 0x0E
 
 -- Unit Exception and Unit Check end the chain
 unfoldable pub endsWell : Ending → Bool
-endsWell Normal = true
-endsWell Satisfied = true
-endsWell Exception = false
-endsWell (Check row) = false
+endsWell Ending.Normal = true
+endsWell Ending.Satisfied = true
+endsWell Ending.Exception = false
+endsWell (Ending.Check row) = false
 
 -- satisfied: the next command word is 16 on, not 8
 unfoldable pub stride : Ending → ℕ
-stride Normal = 8
-stride Satisfied = 16
-stride Exception = 8
-stride (Check row) = 8
+stride Ending.Normal = 8
+stride Ending.Satisfied = 16
+stride Ending.Exception = 8
+stride (Ending.Check row) = 8
 
 -- ---- the end of a command: the chain goes on, or is at its end
 

@@ -5,16 +5,16 @@ use mathlib.Core.Bool.{false}
 use mathlib.Core.List.{List}
 use lib.ListN.{length}
 use Rattle.cells.specs.Cells.{marks}
-use Rattle.words.specs.declared.Word.{Word}
+use Rattle.words.specs.declared.{Word.Word}
 use Rattle.words.specs.Words.{wordBytes, Reaches}
 use Rattle.words.specs.Status.{statusAt}
 use Rattle.hunt.specs.Hunt.{Whole}
-use Rattle.pack.specs.declared.Shape.{Shape}
-use Rattle.held.specs.declared.Held.{Held}
+use Rattle.pack.specs.declared.{Shape.Shape}
+use Rattle.held.specs.declared.{Held.Held}
 use Rattle.command.specs.Command.{SelectedOn}
-use Rattle.turn.specs.declared.Told.{Told}
+use Rattle.turn.specs.declared.{Told.Told}
 use Rattle.turn.specs.Turn.{alone, given, Turn, toldOf, laid, isCheck}
-use Rattle.command.specs.declared.Job.{Job}
+use Rattle.command.specs.declared.{Job.Job}
 use Rattle.command.specs.Command.{sight, acts}
 use Rattle.channel.specs.Channel.{fetched, placed}
 

@@ -9,23 +9,21 @@ use native.Mathlib.Omega.{arith}
 use borrow.Author.Tests.{not-true}
 use Rattle.cells.specs.Choice.{pick, both}
 use Rattle.cells.proofs.Tests.{first-of, second-of}
-use Rattle.words.specs.declared.Tested.{Tested}
+use Rattle.words.specs.declared.{Tested.Tested, Begun.Begun}
 use Rattle.words.specs.declared.Tested.the-variants.{Obey, Jump, Bad}
-use Rattle.words.specs.declared.Begun.{Begun}
 use Rattle.words.specs.declared.Begun.the-variants.{Begins, Refused}
 use Rattle.words.specs.Words.{along, tested, begunBy}
-use Rattle.areas.specs.declared.Area.{Area}
-use Rattle.pack.specs.declared.Shape.{Shape}
+use Rattle.areas.specs.declared.{Area.Area}
+use Rattle.pack.specs.declared.{Shape.Shape}
 use Rattle.pack.specs.Tracks.{trackNo, startOf}
-use Rattle.held.specs.declared.Held.{Held}
+use Rattle.held.specs.declared.{Held.Held}
 use Rattle.held.specs.Held.{fresh, freshChannel, rested}
 use Rattle.chain.specs.Step.{World, world, under, selected, step, run}
 use Rattle.chain.specs.Legal.{heldFits, Legal}
 use Rattle.chain.proofs.Legal.{step-legal}
 use Rattle.chain.proofs.Runs.{run-on, run-idle, run-split, run-legal}
-use Rattle.host.specs.declared.Answer.{Answer}
+use Rattle.host.specs.declared.{Answer.Answer, Guarded.Guarded}
 use Rattle.host.specs.declared.Answer.the-variants.{ChainEnded, AllowanceUsed, BadStart, NoChain, ChainGoing}
-use Rattle.host.specs.declared.Guarded.{Guarded}
 use Rattle.host.specs.declared.Guarded.the-variants.{Passes, Answers}
 use Rattle.host.specs.Host.{Hears, hears, guardOf, guards, refusesStart, firstWord, begins, starts, ran, goes}
 use Rattle.host.proofs.Laws.{passes-legal}

@@ -12,7 +12,7 @@ use lib.Dec.{lit<}
 use Rattle.cells.specs.Cells.{isByte, cellOf, bytesOf}
 use Rattle.house_check.specs.Area.{Burst, window}
 use Rattle.house_check.proofs.Burst.{burst-parts}
-use Rattle.areas.specs.declared.Area.{Area}
+use Rattle.areas.specs.declared.{Area.Area}
 use Rattle.areas.specs.Areas.{areaCells, readable}
 use Rattle.hunt.specs.declared.Spot.the-variants.{Marker}
 use Rattle.sound.specs.Sound.{Sound}

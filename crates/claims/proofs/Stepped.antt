@@ -18,24 +18,17 @@ use Rattle.cells.specs.Cells.{trackCells, marks}
 use Rattle.cells.proofs.Laws.{overlay-none}
 use Rattle.cells.proofs.Marks.{both-never}
 use Rattle.cells.proofs.Tests.{second-of, second-picked}
-use Rattle.rows.specs.declared.Sense.{Sense}
+use Rattle.rows.specs.declared.{Sense.Sense}
 use Rattle.rows.specs.Rows.{senseOf}
-use Rattle.words.specs.declared.Word.{Word}
-use Rattle.words.specs.declared.Tested.{Tested}
+use Rattle.words.specs.declared.{Word.Word, Tested.Tested}
 use Rattle.words.specs.declared.Tested.the-variants.{Obey, Jump, Bad}
 use Rattle.words.specs.Words.{chains}
 use Rattle.words.specs.Status.{stored, statusFor}
-use Rattle.areas.specs.declared.Part.{Part}
-use Rattle.areas.specs.declared.Part.the-variants as Part
-use Rattle.areas.specs.declared.Area.{Area}
+use Rattle.areas.specs.declared.{Part.Part, Area.Area}
 use Rattle.areas.specs.Areas.{rowOf}
-use Rattle.pack.specs.declared.Head.{Head}
-use Rattle.pack.specs.declared.Shape.{Shape}
+use Rattle.pack.specs.declared.{Head.Head, Shape.Shape}
 use Rattle.pack.specs.Tracks.{trackNo, startOf, trackAt}
-use Rattle.held.specs.declared.Stands.{Stands}
-use Rattle.held.specs.declared.Orders.{Orders}
-use Rattle.held.specs.declared.Channel.{Channel}
-use Rattle.held.specs.declared.Held.{Held}
+use Rattle.held.specs.declared.{Stands.Stands, Orders.Orders, Channel.Channel, Held.Held}
 use Rattle.held.specs.Held.{rested}
 use Rattle.turn.specs.Turn.{sensing}
 use Rattle.channel.specs.Channel.{unitStatus, endsWell}

@@ -10,27 +10,21 @@ use lib.ListN.{length, getD}
 use lib.Dec.{eqb}
 use Rattle.cells.specs.Choice.{pick, both}
 use Rattle.cells.specs.Cells.{trackCells, gap}
-use Rattle.rows.specs.declared.Sense.{Sense}
+use Rattle.rows.specs.declared.{Sense.Sense}
 use Rattle.rows.specs.Rows.{sense}
-use Rattle.words.specs.declared.Word.{Word}
-use Rattle.words.specs.declared.Tested.the-variants.{Obey}
+use Rattle.words.specs.declared.{Word.Word, Tested.Tested}
 use Rattle.words.specs.Status.{stored, statusFor}
-use Rattle.areas.specs.declared.Part.{Part}
-use Rattle.areas.specs.declared.Part.the-variants as Part
-use Rattle.areas.specs.declared.Area.{Area}
-use Rattle.pack.specs.declared.Cylinder.{Cylinder}
-use Rattle.pack.specs.declared.Shape.{Shape}
+use Rattle.areas.specs.declared.{Part.Part, Area.Area}
+use Rattle.pack.specs.declared.{Cylinder.Cylinder, Shape.Shape}
 use Rattle.pack.specs.Tracks.{trackNo, trackAt}
-use Rattle.held.specs.declared.Held.{Held}
+use Rattle.held.specs.declared.{Held.Held}
 use Rattle.held.specs.Held.{rested}
 use Rattle.turn.specs.Turn.{sensing}
 use Rattle.turn.specs.Turn.{Lies}
 use Rattle.chain.specs.Step.{World, world, next, step, run, wordReads, testedWrites}
 use Rattle.sound.specs.Sound.{Sound}
 use Rattle.damage.specs.Damage.{Own, Damaged, any, sameArea}
-use Rattle.host.specs.declared.Answer.the-variants.{ChainEnded}
-use Rattle.host.specs.declared.Guarded.{Guarded}
-use Rattle.host.specs.declared.Guarded.the-variants.{Passes, Answers}
+use Rattle.host.specs.declared.{Answer.Answer, Guarded.Guarded}
 use Rattle.host.specs.Host.{Hears, guardOf, starts, goes}
 
 -- ---- two packs, alike but for one area of one track
@@ -89,8 +83,8 @@ left g (k ∷ ks) w = left g ks (hear g k w .left)
 
 -- no word that ran in these calls was a write, and none read that area; a start and a refused go run none
 unfoldable pub quietIf : Guarded → Bool → Bool
-quietIf Passes b = b
-quietIf (Answers a) b = true
+quietIf Guarded.Passes b = b
+quietIf (Guarded.Answers a) b = true
 
 unfoldable pub quietCall : Shape → ℕ → Area → Call → World → Bool
 quietCall g n x start w = true
@@ -129,14 +123,14 @@ dataCheck Part.Data = sense 0x08 0x00
 -- Unit Check, so that no search is satisfied, and the word's whole count left, so that no byte was moved; no cell is changed
 pub record DataChecked (x : Area) (w v : World) : Type 0 where
   pub word : Word
-  pub given : next w ≡ Obey word
+  pub given : next w ≡ Tested.Obey word
   pub held : v .held ≡ rested (sensing (w .held .stands) (dataCheck (x .part)))
   pub storage : v .storage ≡ stored (w .storage) (statusFor (w .held .channel .key) (w .held .channel .next) 0x0E 0x00 (word .count))
   pub cells : v .cells ≡ w .cells
 
 -- in a go from w, word k + 1 is the first that reads the area, and no word up to it is a write
 pub record FirstReads (g : Shape) (n : ℕ) (x : Area) (allowance k : ℕ) (w : World) : Type 0 where
-  pub passes : guardOf g w ≡ Passes
+  pub passes : guardOf g w ≡ Guarded.Passes
   pub within : k < allowance
   pub before : quiet g n x k w ≡ true
   pub going : run g k w .held .channel .going ≡ true
@@ -146,7 +140,7 @@ pub record FirstReads (g : Shape) (n : ℕ) (x : Area) (allowance k : ℕ) (w : 
 -- then the two runs are alike up to that word, and on the damaged pack the host hears that the chain ended there, with Data Check
 pub record EndsThere (g : Shape) (x : Area) (c c′ : List ℕ) (allowance k : ℕ) (w v : World) : Type 0 where
   pub until : Alike c c′ (run g k w) (run g k v)
-  pub answer : goes g allowance v .answer ≡ ChainEnded
+  pub answer : goes g allowance v .answer ≡ Answer.ChainEnded
   pub checked : DataChecked x (run g k v) (goes g allowance v .left)
 
 -- ---- the demand, for any calls of a host from any held state and storage

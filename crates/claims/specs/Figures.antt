@@ -8,24 +8,23 @@ use lib.ListN.{length, replicate}
 use Rattle.cells.specs.Bytes.{number, part, overlay}
 use Rattle.cells.specs.Cells.{trackCells}
 use Rattle.house_check.specs.Area.{laid}
-use Rattle.areas.specs.declared.Counts.{Counts}
+use Rattle.areas.specs.declared.{Counts.Counts}
 use Rattle.areas.specs.Areas.{zeroFirst, endBy, needed}
 use Rattle.room.specs.Room.{roomLeft, fits}
 use Rattle.mask.specs.Mask.{legal}
-use Rattle.rows.specs.declared.Row.the-variants.{BadSeek}
+use Rattle.rows.specs.declared.{Row.Row}
 use Rattle.rows.specs.Rows.{sense}
 use Rattle.words.specs.Words.{addressWord}
 use Rattle.words.specs.Status.{statusAt}
-use Rattle.pack.specs.declared.Shape.{Shape}
-use Rattle.pack.specs.declared.Sought.the-variants as Sought
+use Rattle.pack.specs.declared.{Shape.Shape, Sought.Sought}
 use Rattle.pack.specs.Shapes.{cylinder, head, seekTo, seekHead}
-use Rattle.compare.specs.declared.Compared.the-variants.{High}
+use Rattle.compare.specs.declared.{Compared.Compared}
 use Rattle.compare.specs.Compare.{compared}
-use Rattle.held.specs.declared.Stands.{Stands}
+use Rattle.held.specs.declared.{Stands.Stands}
 use Rattle.held.specs.Held.{fresh, rested}
 use Rattle.turn.specs.Turn.{standing}
 use Rattle.chain.specs.Step.{world}
-use Rattle.host.specs.declared.Answer.the-variants.{ChainEnded, AllowanceUsed}
+use Rattle.host.specs.declared.{Answer.Answer}
 use Rattle.host.specs.Host.{Hears, beginning, starts, goes}
 use Rattle.sound.specs.Sound.{Sound}
 use Rattle.sound.specs.Tracks.{filled, home, count, alone}
@@ -117,14 +116,14 @@ OnFullPack fact = (cells : List ℕ) → length cells ≡ 8314880 → fact cells
 pub record Figures : Type 0 where
   -- 1. 72 holds 00000100; at 256 Search HA (count 4, flag 40) satisfied; at 272 No-op, count 1. Status word: 00 00 01 18 0C 00 00 01
   pub one-sound : Sound alone
-  pub one-start : started .answer ≡ AllowanceUsed
+  pub one-start : started .answer ≡ Answer.AllowanceUsed
   pub one-start-going : started .left .held .channel .going ≡ true
   pub one-start-next : nextOf started ≡ 256
-  pub one-search : gone 1 .answer ≡ AllowanceUsed
+  pub one-search : gone 1 .answer ≡ Answer.AllowanceUsed
   pub one-search-next : nextOf (gone 1) ≡ 272
   pub one-search-whole : gone 1 .left .held .orders .whole ≡ true
   pub one-search-stands : standsOf (gone 1) ≡ standsAt 0 0 1 0 0
-  pub one-end : gone 2 .answer ≡ ChainEnded
+  pub one-end : gone 2 .answer ≡ Answer.ChainEnded
   pub one-status : statusOf (gone 2) ≡ 0x00 ∷ 0x00 ∷ 0x01 ∷ 0x18 ∷ 0x0C ∷ 0x00 ∷ 0x00 ∷ 0x01 ∷ []
   -- 2. R0 with DL 8 ends at cell 27; then DL 4,054 without key has room 0 and fits; 4,055 has room -1
   pub two-ends : afterZero ≡ suc 27
@@ -136,36 +135,36 @@ pub record Figures : Type 0 where
   pub three : needed (lengths 4 0) ≡ 21
   -- 4. mask D8 legal
   pub four : legal 0xD8 ≡ true
-  pub four-going : maskWord 0x40 0xD8 .answer ≡ AllowanceUsed
+  pub four-going : maskWord 0x40 0xD8 .answer ≡ Answer.AllowanceUsed
   pub four-held : maskWord 0x40 0xD8 .left .held .orders .mask ≡ 0xD8
-  pub four-end : maskWord 0x00 0xD8 .answer ≡ ChainEnded
+  pub four-end : maskWord 0x00 0xD8 .answer ≡ Answer.ChainEnded
   pub four-status : statusOf (maskWord 0x00 0xD8) ≡ 0x00 ∷ 0x00 ∷ 0x01 ∷ 0x08 ∷ 0x0C ∷ 0x00 ∷ 0x00 ∷ 0x00 ∷ []
   -- 5. 04 and 20 not
   pub five-04 : legal 0x04 ≡ false
-  pub five-04-end : maskWord 0x40 0x04 .answer ≡ ChainEnded
+  pub five-04-end : maskWord 0x40 0x04 .answer ≡ Answer.ChainEnded
   pub five-04-status : statusOf (maskWord 0x40 0x04) ≡ 0x00 ∷ 0x00 ∷ 0x01 ∷ 0x08 ∷ 0x0E ∷ 0x00 ∷ 0x00 ∷ 0x00 ∷ []
   pub five-04-sense : standsOf (maskWord 0x40 0x04) .sense ≡ sense 0x80 0x00
   pub five-20 : legal 0x20 ≡ false
-  pub five-20-end : maskWord 0x40 0x20 .answer ≡ ChainEnded
+  pub five-20-end : maskWord 0x40 0x20 .answer ≡ Answer.ChainEnded
   pub five-20-status : statusOf (maskWord 0x40 0x20) ≡ 0x00 ∷ 0x00 ∷ 0x01 ∷ 0x08 ∷ 0x0E ∷ 0x00 ∷ 0x00 ∷ 0x00 ∷ []
   pub five-20-sense : standsOf (maskWord 0x40 0x20) .sense ≡ sense 0x80 0x00
   -- 6. on a full pack cylinder 202, head 9 accepted
   pub six : seekTo fullPack 0 (cylinder 202) (head 9) ≡ Sought.Stands (cylinder 202) (head 9)
-  pub six-going : OnFullPack (λ cells. seekWord cells 202 9 .answer ≡ AllowanceUsed)
+  pub six-going : OnFullPack (λ cells. seekWord cells 202 9 .answer ≡ Answer.AllowanceUsed)
   pub six-stands : OnFullPack (λ cells. standsOf (seekWord cells 202 9) ≡ standsAt 202 9 0 0 0)
   pub six-head : seekHead fullPack (cylinder 202) (head 9) ≡ Sought.Stands (cylinder 202) (head 9)
   -- 7. 203 or head 10 not
-  pub seven-cylinder : seekTo fullPack 0 (cylinder 203) (head 9) ≡ Sought.Fails BadSeek
-  pub seven-cylinder-end : OnFullPack (λ cells. seekWord cells 203 9 .answer ≡ ChainEnded)
+  pub seven-cylinder : seekTo fullPack 0 (cylinder 203) (head 9) ≡ Sought.Fails Row.BadSeek
+  pub seven-cylinder-end : OnFullPack (λ cells. seekWord cells 203 9 .answer ≡ Answer.ChainEnded)
   pub seven-cylinder-status : OnFullPack (λ cells. statusOf (seekWord cells 203 9) ≡ 0x00 ∷ 0x00 ∷ 0x01 ∷ 0x08 ∷ 0x0E ∷ 0x00 ∷ 0x00 ∷ 0x00 ∷ [])
   pub seven-cylinder-stands : OnFullPack (λ cells. standsOf (seekWord cells 203 9) ≡ standsAt 100 5 7 0x81 0x00)
-  pub seven-head : seekTo fullPack 0 (cylinder 202) (head 10) ≡ Sought.Fails BadSeek
-  pub seven-head-end : OnFullPack (λ cells. seekWord cells 202 10 .answer ≡ ChainEnded)
+  pub seven-head : seekTo fullPack 0 (cylinder 202) (head 10) ≡ Sought.Fails Row.BadSeek
+  pub seven-head-end : OnFullPack (λ cells. seekWord cells 202 10 .answer ≡ Answer.ChainEnded)
   pub seven-head-status : OnFullPack (λ cells. statusOf (seekWord cells 202 10) ≡ 0x00 ∷ 0x00 ∷ 0x01 ∷ 0x08 ∷ 0x0E ∷ 0x00 ∷ 0x00 ∷ 0x00 ∷ [])
   pub seven-head-stands : OnFullPack (λ cells. standsOf (seekWord cells 202 10) ≡ standsAt 100 5 7 0x81 0x00)
-  pub seven-head-only : seekHead fullPack (cylinder 202) (head 10) ≡ Sought.Fails BadSeek
+  pub seven-head-only : seekHead fullPack (cylinder 202) (head 10) ≡ Sought.Fails Row.BadSeek
   -- 8. ID 0000000002 on track against 0000000001: high, not equal
-  pub eight : compared (number (0 ∷ 0 ∷ 0 ∷ 0 ∷ 2 ∷ [])) (number (0 ∷ 0 ∷ 0 ∷ 0 ∷ 1 ∷ [])) ≡ High
+  pub eight : compared (number (0 ∷ 0 ∷ 0 ∷ 0 ∷ 2 ∷ [])) (number (0 ∷ 0 ∷ 0 ∷ 0 ∷ 1 ∷ [])) ≡ Compared.High
   -- at the level of the box: satisfied is the word 16 on, 272; not satisfied the word 8 on, 264
   pub eight-sound : Sound idTwo
   pub eight-high : nextOf (idWord 0x51 1) ≡ 272
@@ -178,7 +177,7 @@ pub record Figures : Type 0 where
   -- 9. with flag 20, equal on 4 of 5 ID bytes satisfies 31, yet 05 after it gets 80 10, and no cell changes
   pub nine-satisfied : nextOf (searchThenWrite 1 4) ≡ 272
   pub nine-not-whole : searchThenWrite 1 4 .left .held .orders .whole ≡ false
-  pub nine-end : searchThenWrite 2 4 .answer ≡ ChainEnded
+  pub nine-end : searchThenWrite 2 4 .answer ≡ Answer.ChainEnded
   pub nine-status : statusOf (searchThenWrite 2 4) ≡ 0x00 ∷ 0x00 ∷ 0x01 ∷ 0x18 ∷ 0x0E ∷ 0x00 ∷ 0x00 ∷ 0x08 ∷ []
   pub nine-sense : standsOf (searchThenWrite 2 4) .sense ≡ sense 0x80 0x10
   pub nine-cells : searchThenWrite 2 4 .left .cells ≡ idTwo

@@ -6,7 +6,7 @@ use lib.IntN.{negsuc}
 use Rattle.cells.specs.Cells.{trackCells}
 use Rattle.areas.specs.Areas.{endBy, needed}
 use Rattle.room.specs.Room.{roomLeft, fits}
-use Rattle.pack.specs.declared.Shape.{Shape}
+use Rattle.pack.specs.declared.{Shape.Shape}
 use Rattle.pack.specs.Shapes.{packFits}
 use Rattle.claims.specs.Figures.{lengths}
 

@@ -12,7 +12,7 @@ use Rattle.room.specs.Room.{roomLeft}
 use Rattle.rows.specs.Rows.{sense}
 use Rattle.held.specs.Held.{fresh}
 use Rattle.chain.specs.Step.{world}
-use Rattle.host.specs.declared.Answer.the-variants.{ChainEnded}
+use Rattle.host.specs.declared.{Answer.Answer}
 use Rattle.host.specs.Host.{Hears, beginning, goes}
 use Rattle.sound.specs.Tracks.{filled, home, count}
 use Rattle.claims.specs.Figures.{lengths, word, storageWith, onePack, statusOf, standsOf, idTwo}
@@ -30,7 +30,7 @@ unfoldable pub far : List ℕ
 far = filled (home 0 ++ count 0 2 0 0xFF 0xFF ++ laid (replicate 8 0))
 
 pub record Refused (track : List ℕ) (x : Hears) : Type 0 where
-  pub ended : x .answer ≡ ChainEnded
+  pub ended : x .answer ≡ Answer.ChainEnded
   -- 8 of 12 bytes moved
   pub status : statusOf x ≡ 0x00 ∷ 0x00 ∷ 0x01 ∷ 0x18 ∷ 0x0E ∷ 0x00 ∷ 0x00 ∷ 0x04 ∷ []
   pub sensed : standsOf x .sense ≡ sense 0x00 0x40

@@ -12,13 +12,12 @@ use Rattle.cells.specs.Cells.{marker, cellOf}
 use Rattle.house_check.specs.Area.{laid}
 use Rattle.rows.specs.Rows.{sense}
 use Rattle.words.specs.Status.{statusAt}
-use Rattle.areas.specs.declared.Area.{Area}
-use Rattle.areas.specs.declared.Part.the-variants.{Key, Data}
+use Rattle.areas.specs.declared.{Area.Area, Part.Part}
 use Rattle.areas.specs.Areas.{area, homeArea, zeroFirst, countArea}
 use Rattle.held.specs.Held.{fresh}
 use Rattle.turn.specs.Turn.{Lies}
 use Rattle.chain.specs.Step.{World, world, step, wordReads}
-use Rattle.host.specs.declared.Answer.the-variants.{ChainEnded}
+use Rattle.host.specs.declared.{Answer.Answer}
 use Rattle.host.specs.Host.{Hears, starts, goes}
 use Rattle.sound.specs.Sound.{Sound}
 use Rattle.sound.specs.Tracks.{filled, home, count, alone}
@@ -41,27 +40,27 @@ abbrev pub zeroCount : Area
 zeroCount = countArea zeroFirst
 
 abbrev pub zeroKey : Area
-zeroKey = area Key 18 2
+zeroKey = area Part.Key 18 2
 
 abbrev pub zeroData : Area
-zeroData = area Data 22 8
+zeroData = area Part.Data 22 8
 
 -- record 1's, whose marker is in cell 32
 abbrev pub oneCount : Area
 oneCount = countArea 33
 
 abbrev pub oneKey : Area
-oneKey = area Key 44 2
+oneKey = area Part.Key 44 2
 
 abbrev pub oneData : Area
-oneData = area Data 48 3
+oneData = area Part.Data 48 3
 
 -- record 3's, whose marker is in cell 75
 abbrev pub threeCount : Area
 threeCount = countArea 76
 
 abbrev pub threeKey : Area
-threeKey = area Key 87 4
+threeKey = area Part.Key 87 4
 
 -- one bit of record 1's count area changed: its KL, in cell 39, is 3 for 2
 unfoldable pub hurtCount : List ℕ
@@ -111,7 +110,7 @@ pub record Reading : Type 0 where
   pub read-count : readsAfter 0 (begun stocked (oneWord 0x12 8) 0) ≡ oneCount ∷ []
   -- Read R0: not the home address; the key if there is one
   pub read-zero : readsAfter 0 (begun stocked (oneWord 0x16 18) 0) ≡ zeroCount ∷ zeroKey ∷ zeroData ∷ []
-  pub read-zero-keyless : readsAfter 0 (begun alone (oneWord 0x16 16) 0) ≡ zeroCount ∷ area Data 18 8 ∷ []
+  pub read-zero-keyless : readsAfter 0 (begun alone (oneWord 0x16 16) 0) ≡ zeroCount ∷ area Part.Data 18 8 ∷ []
   -- Read CKD; and of a record with DL 0, the next after record 2 was found
   pub read-all : readsAfter 0 (begun stocked (oneWord 0x1E 13) 0) ≡ oneCount ∷ oneKey ∷ oneData ∷ []
   pub read-all-empty : readsAfter 5 (begun stocked (chained 0x1E 12) 2) ≡ threeCount ∷ threeKey ∷ []
@@ -164,33 +163,33 @@ pub record NotEmpty : Type 0 where
   pub data-damaged : Damaged 0 oneData stocked hurtData
   -- no word reads the damaged count: the chain ends well, and all is as it would be, but for the damage itself
   pub past-unread : touches oneCount 3 (pastOne hurtCount) ≡ false
-  pub past-end : passes hurtCount .answer ≡ ChainEnded
+  pub past-end : passes hurtCount .answer ≡ Answer.ChainEnded
   pub past-status : statusOf (passes hurtCount) ≡ 0x00 ∷ 0x00 ∷ 0x01 ∷ 0x20 ∷ 0x0C ∷ 0x00 ∷ 0x00 ∷ 0x00 ∷ []
   pub past-bytes : movedTo (passes hurtCount) 14 ≡ 0 ∷ 0 ∷ 0 ∷ 0 ∷ 2 ∷ 4 ∷ 0 ∷ 2 ∷ 0xC1 ∷ 0xC2 ∷ 0xC3 ∷ 0xC4 ∷ 4 ∷ 5 ∷ []
   pub past-cells : passes hurtCount .left .cells ≡ hurtCount
   pub past-undamaged-unread : touches oneCount 3 (pastOne stocked) ≡ false
-  pub past-undamaged-end : passes stocked .answer ≡ ChainEnded
+  pub past-undamaged-end : passes stocked .answer ≡ Answer.ChainEnded
   pub past-same-held : passes hurtCount .left .held ≡ passes stocked .left .held
   pub past-same-storage : passes hurtCount .left .storage ≡ passes stocked .left .storage
   -- a word reads the damaged count: 08 80, no byte moves, and nothing is stored but the status word
   pub count-read : touches oneCount 1 (countOfOne hurtCount) ≡ true
-  pub count-end : meets (countOfOne hurtCount) .answer ≡ ChainEnded
+  pub count-end : meets (countOfOne hurtCount) .answer ≡ Answer.ChainEnded
   pub count-storage : meets (countOfOne hurtCount) .left .storage
       ≡ overlay (countOfOne hurtCount .storage) statusAt (0x00 ∷ 0x00 ∷ 0x01 ∷ 0x08 ∷ 0x0E ∷ 0x00 ∷ 0x00 ∷ 0x08 ∷ [])
   pub count-stands : standsOf (meets (countOfOne hurtCount)) ≡ standsAt 0 0 0 0x08 0x80
   pub count-cells : meets (countOfOne hurtCount) .left .cells ≡ hurtCount
   -- .. and without the damage its 8 bytes
-  pub count-undamaged-end : meets (countOfOne stocked) .answer ≡ ChainEnded
+  pub count-undamaged-end : meets (countOfOne stocked) .answer ≡ Answer.ChainEnded
   pub count-undamaged-status : statusOf (meets (countOfOne stocked)) ≡ 0x00 ∷ 0x00 ∷ 0x01 ∷ 0x08 ∷ 0x0C ∷ 0x00 ∷ 0x00 ∷ 0x00 ∷ []
   pub count-undamaged-bytes : movedTo (meets (countOfOne stocked)) 8 ≡ 0 ∷ 0 ∷ 0 ∷ 0 ∷ 1 ∷ 2 ∷ 0 ∷ 3 ∷ []
   -- a word reads the damaged data: 08 00
   pub data-read : touches oneData 1 (dataOfOne hurtData) ≡ true
-  pub data-end : meets (dataOfOne hurtData) .answer ≡ ChainEnded
+  pub data-end : meets (dataOfOne hurtData) .answer ≡ Answer.ChainEnded
   pub data-storage : meets (dataOfOne hurtData) .left .storage
       ≡ overlay (dataOfOne hurtData .storage) statusAt (0x00 ∷ 0x00 ∷ 0x01 ∷ 0x08 ∷ 0x0E ∷ 0x00 ∷ 0x00 ∷ 0x03 ∷ [])
   pub data-stands : standsOf (meets (dataOfOne hurtData)) ≡ standsAt 0 0 0 0x08 0x00
   pub data-cells : meets (dataOfOne hurtData) .left .cells ≡ hurtData
   -- .. and without the damage its 3 bytes
-  pub data-undamaged-end : meets (dataOfOne stocked) .answer ≡ ChainEnded
+  pub data-undamaged-end : meets (dataOfOne stocked) .answer ≡ Answer.ChainEnded
   pub data-undamaged-status : statusOf (meets (dataOfOne stocked)) ≡ 0x00 ∷ 0x00 ∷ 0x01 ∷ 0x08 ∷ 0x0C ∷ 0x00 ∷ 0x00 ∷ 0x00 ∷ []
   pub data-undamaged-bytes : movedTo (meets (dataOfOne stocked)) 3 ≡ 1 ∷ 2 ∷ 3 ∷ []

@@ -2,21 +2,15 @@
 use Prim.Native.Nat.{ℕ}
 use mathlib.Core.Path.{_≡_, refl, sym, ap, subst}
 use mathlib.Core.List.{List}
-use Rattle.rows.specs.declared.Row.{Row}
-use Rattle.pack.specs.declared.Shape.{Shape}
-use Rattle.held.specs.declared.Stands.{Stands}
-use Rattle.held.specs.declared.Orders.{Orders}
-use Rattle.command.specs.declared.Got.{Got}
+use Rattle.rows.specs.declared.{Row.Row}
+use Rattle.pack.specs.declared.{Shape.Shape}
+use Rattle.held.specs.declared.{Stands.Stands, Orders.Orders}
+use Rattle.command.specs.declared.{Got.Got, Task.Task, Plan.Plan, Job.Job, Ready.Ready}
 use Rattle.command.specs.declared.Got.the-variants.{Sees, Fails}
-use Rattle.table.specs.declared.Rule.{Rule}
+use Rattle.table.specs.declared.{Rule.Rule}
 use Rattle.table.specs.Table.{ruleOf}
 use Rattle.turn.specs.Turn.{Tracks, Lies, checks}
-use Rattle.command.specs.declared.Task.{Task}
-use Rattle.command.specs.declared.Plan.{Plan}
 use Rattle.command.specs.declared.Plan.the-variants.{Refuses, Works}
-use Rattle.command.specs.declared.Job.{Job}
-use Rattle.command.specs.declared.Ready.{Ready}
-use Rattle.command.specs.declared.Ready.the-variants as Ready
 use Rattle.command.specs.Command.{marksOf, plans, gets, Sighted, sight, acts, hasRead, readyBy, planReads, turnBy, obeys, command, readies}
 
 abbrev ReadySighted : Tracks → Ready → Type 0

@@ -6,28 +6,17 @@ use mathlib.Core.List.{List, []}
 use lib.Dec.{eqb}
 use Rattle.cells.specs.Choice.{pick, both}
 use Rattle.cells.proofs.Tests.{pick-all}
-use Rattle.rows.specs.declared.Row.{Row}
-use Rattle.rows.specs.declared.Row.the-variants as Row
+use Rattle.rows.specs.declared.{Row.Row}
 use Rattle.mask.specs.Mask.{legal}
 use Rattle.room.specs.Room.{fits}
-use Rattle.areas.specs.declared.Counts.{Counts}
-use Rattle.pack.specs.declared.Shape.{Shape}
-use Rattle.pack.specs.declared.Sought.{Sought}
-use Rattle.pack.specs.declared.Sought.the-variants as Sought
-use Rattle.held.specs.declared.Stands.{Stands}
-use Rattle.held.specs.declared.Orders.{Orders}
-use Rattle.turn.specs.declared.Ending.{Ending}
+use Rattle.areas.specs.declared.{Counts.Counts}
+use Rattle.pack.specs.declared.{Shape.Shape, Sought.Sought}
+use Rattle.held.specs.declared.{Stands.Stands, Orders.Orders}
+use Rattle.turn.specs.declared.{Ending.Ending}
 use Rattle.turn.specs.declared.Ending.the-variants.{Normal, Satisfied, Exception, Check}
-use Rattle.table.specs.declared.Control.{Control}
-use Rattle.table.specs.declared.Control.the-variants as Control
-use Rattle.table.specs.declared.Write.{Write}
-use Rattle.table.specs.declared.Write.the-variants as Write
-use Rattle.table.specs.declared.Act.{Act}
-use Rattle.table.specs.declared.Act.the-variants as Act
+use Rattle.table.specs.declared.{Control.Control, Write.Write, Act.Act}
 use Rattle.turn.specs.Turn.{Tracks, Lies, Piece, Moves, None, Gives, Takes, Turn, isCheck, checks}
-use Rattle.command.specs.declared.Task.{Task}
-use Rattle.command.specs.declared.Ready.{Ready}
-use Rattle.command.specs.declared.Ready.the-variants as Ready
+use Rattle.command.specs.declared.{Task.Task, Ready.Ready}
 use Rattle.command.specs.Command.{Sight, sight, fails, endsAt, ends, endingOf, rests, senses, arrives, seeks, masked, masks, spaces, satisfied, comparesWith, compares, gives, laysHome, laysNew, laysR0, laysRecord, updates, does, lays, acts, turnBy, obeys, command}
 
 abbrev pub LaysBy : Moves → List Piece → Type 0

@@ -15,10 +15,9 @@ use Rattle.cells.specs.Cells.{trackCells}
 use Rattle.cells.proofs.Laws.{length-overlay}
 use Rattle.cells.proofs.Tests.{first-of, second-of}
 use Rattle.house_check.specs.Area as Area
-use Rattle.areas.specs.declared.Area.{Area}
-use Rattle.areas.specs.declared.Counts.{Counts}
+use Rattle.areas.specs.declared.{Area.Area, Counts.Counts}
 use Rattle.areas.specs.Areas.{keyArea, dataArea}
-use Rattle.pack.specs.declared.Head.{Head}
+use Rattle.pack.specs.declared.{Head.Head}
 use Rattle.command.specs.Command.{areaIf, named}
 use Rattle.laying.specs.Laying.{recorded, formatted}
 use Rattle.laying.proofs.Laws.{length-area, formatted-is, recorded-lies}

@@ -10,28 +10,18 @@ use borrow.Author.Tests.{ltb-false}
 use Rattle.cells.specs.Choice.{pick, both}
 use Rattle.cells.specs.Cells.{trackCells, marks}
 use Rattle.cells.proofs.Tests.{pick-all}
-use Rattle.rows.specs.declared.Row.the-variants as Row
+use Rattle.rows.specs.declared.{Row.Row}
 use Rattle.mask.specs.Mask.{barsSeek, barsWrite}
-use Rattle.hunt.specs.declared.Spot.{Spot}
-use Rattle.hunt.specs.declared.Spot.the-variants as Spot
-use Rattle.hunt.specs.declared.Next.{Next}
-use Rattle.hunt.specs.declared.Next.the-variants as Next
+use Rattle.hunt.specs.declared.{Spot.Spot, Next.Next}
 use Rattle.hunt.specs.Hunt.{Whole, spotFits, countFirst, nextRecord, nextId}
 use Rattle.hunt.proofs.Inside.{NextOn, next-on, id-on, spot-in}
-use Rattle.held.specs.declared.Selection.{Selection}
+use Rattle.held.specs.declared.{Selection.Selection, Stands.Stands, Orders.Orders}
 use Rattle.held.specs.declared.Selection.the-variants.{Nothing, On}
-use Rattle.held.specs.declared.Stands.{Stands}
-use Rattle.held.specs.declared.Orders.{Orders}
 use Rattle.command.specs.Command.{mostTally, SelectedOn}
-use Rattle.table.specs.declared.Bar.{Bar}
-use Rattle.table.specs.declared.Bar.the-variants as Bar
-use Rattle.table.specs.declared.Aim.{Aim}
-use Rattle.table.specs.declared.Aim.the-variants as Aim
-use Rattle.table.specs.declared.Rule.{Rule}
+use Rattle.table.specs.declared.{Bar.Bar, Aim.Aim, Rule.Rule}
 use Rattle.table.specs.Table.{ruleOf, servesData, servesKey}
 use Rattle.turn.specs.Turn.{Tracks}
-use Rattle.command.specs.declared.Task.{Task}
-use Rattle.command.specs.declared.Plan.{Plan}
+use Rattle.command.specs.declared.{Task.Task, Plan.Plan}
 use Rattle.command.specs.declared.Plan.the-variants.{Refuses, Works}
 use Rattle.command.specs.Command.{Marks, marksOf, licensed, task, tallies, onRecord, onNext, onSelected, toNext, toServed, aimed, unlessBarred, plans}
 

@@ -14,19 +14,15 @@ use borrow.Author.Tests.{ltb-true, ltb-false, lt-ltb}
 use Rattle.cells.specs.Choice.{pick, both}
 use Rattle.cells.specs.Bytes.{part}
 use Rattle.cells.specs.Cells.{bytesOf}
-use Rattle.rows.specs.declared.Row.{Row}
-use Rattle.areas.specs.declared.Area.{Area}
-use Rattle.areas.specs.declared.Counts.{Counts}
-use Rattle.areas.specs.declared.CountRead.{CountRead}
-use Rattle.areas.specs.declared.CountRead.the-variants as CountRead
+use Rattle.rows.specs.declared.{Row.Row}
+use Rattle.areas.specs.declared.{Area.Area, Counts.Counts, CountRead.CountRead}
 use Rattle.areas.specs.Areas.{areaCells, homeArea, countArea, keyArea, dataArea, readable, areaBytes, countsAt, readCount}
 use Rattle.areas.proofs.Laws.{off-track}
-use Rattle.command.specs.declared.Got.{Got}
+use Rattle.command.specs.declared.{Got.Got}
 use Rattle.command.specs.declared.Got.the-variants.{Sees, Fails}
-use Rattle.pack.specs.declared.Head.{Head}
-use Rattle.table.specs.declared.Names.the-variants as Names
+use Rattle.pack.specs.declared.{Head.Head}
+use Rattle.table.specs.declared.{Names.Names}
 use Rattle.turn.specs.Turn.{Tracks, Lies}
-use Rattle.command.specs.declared.Got.{Got}
 use Rattle.command.specs.declared.Got.the-variants.{Sees, Fails}
 use Rattle.command.specs.Command.{areaIf, named, namedBy, liesOn, areasOf, allRead, countsIn, gets, Seen, seen, seeing, saw}
 

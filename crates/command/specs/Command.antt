@@ -9,72 +9,29 @@ use lib.Dec.{ltb, leb, eqb}
 use Rattle.cells.specs.Choice.{pick, both, either}
 use Rattle.cells.specs.Bytes.{be16, number, part, padded}
 use Rattle.cells.specs.Cells.{trackCells, marker, gap, marks}
-use Rattle.rows.specs.declared.Row.{Row}
-use Rattle.rows.specs.declared.Row.the-variants as Row
-use Rattle.rows.specs.declared.Sense.{Sense}
+use Rattle.rows.specs.declared.{Row.Row, Sense.Sense}
 use Rattle.rows.specs.Rows.{sense}
-use Rattle.mask.specs.declared.Seeking.{Seeking}
-use Rattle.mask.specs.declared.Seeking.the-variants as Seeking
+use Rattle.mask.specs.declared.{Seeking.Seeking}
 use Rattle.mask.specs.Mask.{legal, barsSeek, barsWrite}
 use Rattle.house_check.specs.Area.{laid}
-use Rattle.areas.specs.declared.Area.{Area}
-use Rattle.areas.specs.declared.Part.{Part}
-use Rattle.areas.specs.declared.Part.the-variants as Part
-use Rattle.areas.specs.declared.Counts.{Counts}
-use Rattle.areas.specs.declared.CountRead.{CountRead}
-use Rattle.areas.specs.declared.CountRead.the-variants as CountRead
+use Rattle.areas.specs.declared.{Area.Area, Part.Part, Counts.Counts, CountRead.CountRead}
 use Rattle.areas.specs.Areas.{readable, areaBytes, rowOf, homeArea, homeBytes, zeroFirst, countArea, countsAt, readCount, keyArea, dataArea, recordCells, endBy, needed}
 use Rattle.areas.specs.Flags.{flagOfZero, flagAfter}
-use Rattle.hunt.specs.declared.Spot.{Spot}
-use Rattle.hunt.specs.declared.Spot.the-variants as Spot
-use Rattle.hunt.specs.declared.Next.{Next}
-use Rattle.hunt.specs.declared.Next.the-variants as Next
+use Rattle.hunt.specs.declared.{Spot.Spot, Next.Next}
 use Rattle.hunt.specs.Hunt.{spotFits, countFirst, nextRecord, nextId, spaceRecord}
 use Rattle.room.specs.Room.{fits}
 use Rattle.recording.specs.Recording.{countSent}
-use Rattle.compare.specs.declared.Compared.{Compared}
-use Rattle.compare.specs.declared.Compared.the-variants.{Low, Equal, High}
+use Rattle.compare.specs.declared.{Compared.Compared}
 use Rattle.compare.specs.Compare.{compared}
-use Rattle.pack.specs.declared.Cylinder.{Cylinder}
-use Rattle.pack.specs.declared.Head.{Head}
-use Rattle.pack.specs.declared.Shape.{Shape}
-use Rattle.pack.specs.declared.Sought.{Sought}
-use Rattle.pack.specs.declared.Sought.the-variants as Sought
+use Rattle.pack.specs.declared.{Cylinder.Cylinder, Head.Head, Shape.Shape, Sought.Sought}
 use Rattle.pack.specs.Shapes.{cylinder, head, seekTo, seekHead}
-use Rattle.held.specs.declared.Selection.{Selection}
-use Rattle.held.specs.declared.Selection.the-variants.{Nothing, On}
-use Rattle.held.specs.declared.Stands.{Stands}
-use Rattle.held.specs.declared.Orders.{Orders}
+use Rattle.held.specs.declared.{Selection.Selection, Stands.Stands, Orders.Orders}
 use Rattle.laying.specs.Laying.{recorded, newCounts, newRecord}
-use Rattle.table.specs.declared.How.{How}
-use Rattle.table.specs.declared.How.the-variants.{IfEqual, IfHigh, IfEqualOrHigh}
-use Rattle.table.specs.declared.Licence.{Licence}
-use Rattle.table.specs.declared.Licence.the-variants as Licence
-use Rattle.table.specs.declared.Bar.{Bar}
-use Rattle.table.specs.declared.Bar.the-variants as Bar
-use Rattle.table.specs.declared.Aim.{Aim}
-use Rattle.table.specs.declared.Aim.the-variants as Aim
-use Rattle.table.specs.declared.Names.{Names}
-use Rattle.table.specs.declared.Names.the-variants as Names
-use Rattle.table.specs.declared.Control.{Control}
-use Rattle.table.specs.declared.Control.the-variants as Control
-use Rattle.table.specs.declared.Write.{Write}
-use Rattle.table.specs.declared.Write.the-variants as Write
-use Rattle.table.specs.declared.Act.{Act}
-use Rattle.table.specs.declared.Act.the-variants as Act
-use Rattle.table.specs.declared.Rule.{Rule}
+use Rattle.table.specs.declared.{How.How, Licence.Licence, Bar.Bar, Aim.Aim, Names.Names, Control.Control, Write.Write, Act.Act, Rule.Rule}
 use Rattle.table.specs.Table.{ruleOf, looks, servesData, servesKey, isHome}
-use Rattle.turn.specs.declared.Ending.{Ending}
-use Rattle.turn.specs.declared.Ending.the-variants.{Normal, Satisfied, Exception}
+use Rattle.turn.specs.declared.{Ending.Ending}
 use Rattle.turn.specs.Turn.{Tracks, Lies, Piece, Moves, None, Gives, Takes, Turn, turn, standing, sought, ordered, after, checks}
-use Rattle.command.specs.declared.Task.{Task}
-use Rattle.command.specs.declared.Plan.{Plan}
-use Rattle.command.specs.declared.Plan.the-variants.{Refuses, Works}
-use Rattle.command.specs.declared.Got.{Got}
-use Rattle.command.specs.declared.Got.the-variants.{Sees, Fails}
-use Rattle.command.specs.declared.Job.{Job}
-use Rattle.command.specs.declared.Ready.{Ready}
-use Rattle.command.specs.declared.Ready.the-variants as Ready
+use Rattle.command.specs.declared.{Task.Task, Plan.Plan, Got.Got, Job.Job, Ready.Ready}
 
 -- ==== which record it works on. Of the tracks only the markers are seen
 
@@ -120,8 +77,8 @@ mostTally = 1
 
 -- the selected record is one of the track
 unfoldable pub SelectedOn : List Bool → Selection → Type 0
-SelectedOn m Nothing = Unit {0}
-SelectedOn m (On spot) = spotFits m spot ≡ true
+SelectedOn m Selection.Nothing = Unit {0}
+SelectedOn m (Selection.On spot) = spotFits m spot ≡ true
 
 -- Search ID and Key count the index points that they pass in a row; any other command sets the tally to 0
 unfoldable pub tallies : Act → Bool
@@ -133,17 +90,17 @@ tallies (Act.Write w) = false
 -- a record that the head came to past so many index points
 unfoldable pub onRecord : Rule → Orders → Head → Spot → ℕ → Plan
 onRecord r o h spot n =
-    pick (both (tallies (r .act)) (ltb mostTally (o .tally + n))) (Refuses Row.SecondIndex)
-    (Works (task h (countFirst spot) (pick (r .selects) (On spot) Nothing) (pick (tallies (r .act)) (o .tally + n) 0)))
+    pick (both (tallies (r .act)) (ltb mostTally (o .tally + n))) (Plan.Refuses Row.SecondIndex)
+    (Plan.Works (task h (countFirst spot) (pick (r .selects) (Selection.On spot) Selection.Nothing) (pick (tallies (r .act)) (o .tally + n) 0)))
 
 unfoldable pub onNext : Rule → Orders → Head → Next → Plan
 onNext r o h (Next.Stands spot n) = onRecord r o h spot n
-onNext r o h Next.NoMarker = Refuses Row.NoMarker
+onNext r o h Next.NoMarker = Plan.Refuses Row.NoMarker
 
 -- the record selected, or else
 unfoldable pub onSelected : Rule → Orders → Head → Selection → Plan → Plan
-onSelected r o h Nothing other = other
-onSelected r o h (On spot) other = onRecord r o h spot 0
+onSelected r o h Selection.Nothing other = other
+onSelected r o h (Selection.On spot) other = onRecord r o h spot 0
 
 -- the next record on the track under the head
 unfoldable pub toNext : Rule → Marks → Stands → Orders → Plan
@@ -154,24 +111,24 @@ unfoldable pub toServed : Rule → Marks → Stands → Orders → Bool → Plan
 toServed r m s o serves = pick serves (onSelected r o (s .head) (o .selection) (toNext r m s o)) (toNext r m s o)
 
 unfoldable pub aimed : Rule → Marks → Stands → Orders → Aim → Plan
-aimed r m s o Aim.Stays = Works (task (s .head) (s .place) Nothing 0)
-aimed r m s o Aim.HomeAddress = Works (task (s .head) homePlace Nothing 0)
+aimed r m s o Aim.Stays = Plan.Works (task (s .head) (s .place) Selection.Nothing 0)
+aimed r m s o Aim.HomeAddress = Plan.Works (task (s .head) homePlace Selection.Nothing 0)
 aimed r m s o Aim.R0 = onRecord r o (s .head) Spot.Zero 0
 aimed r m s o Aim.NextId = onNext r o (s .head) (nextId (m (s .head)) (s .place))
 aimed r m s o Aim.Next = toNext r m s o
 aimed r m s o Aim.NextForData = toServed r m s o (servesData (ruleOf (o .before) .serves))
 aimed r m s o Aim.NextForKey = toServed r m s o (servesKey (ruleOf (o .before) .serves))
-aimed r m s o Aim.Selected = onSelected r o (s .head) (o .selection) (Refuses Row.WrongBefore)
+aimed r m s o Aim.Selected = onSelected r o (s .head) (o .selection) (Plan.Refuses Row.WrongBefore)
 
 -- seek barred, write barred
 unfoldable pub unlessBarred : Bar → ℕ → Plan → Plan
 unlessBarred Bar.Nothing m x = x
-unlessBarred (Bar.Seeks k) m x = pick (barsSeek m k) (Refuses Row.SeekBarred) x
-unlessBarred (Bar.Writes k) m x = pick (barsWrite m k) (Refuses Row.WriteBarred) x
+unlessBarred (Bar.Seeks k) m x = pick (barsSeek m k) (Plan.Refuses Row.SeekBarred) x
+unlessBarred (Bar.Writes k) m x = pick (barsWrite m k) (Plan.Refuses Row.WriteBarred) x
 
 -- the rows in order: wrong command before; barred; no marker, second index
 unfoldable pub plans : Rule → Marks → Stands → Orders → Plan
-plans r m s o = pick (licensed (r .licence) o) (unlessBarred (r .bar) (o .mask) (aimed r m s o (r .aim))) (Refuses Row.WrongBefore)
+plans r m s o = pick (licensed (r .licence) o) (unlessBarred (r .bar) (o .mask) (aimed r m s o (r .aim))) (Plan.Refuses Row.WrongBefore)
 
 -- ==== which areas it reads: of the home address, or of the record whose count area is at c
 
@@ -198,7 +155,7 @@ areasOf (Names.Count key body) t h c = liesOn h (countArea c ∷ namedBy c key b
 -- all are checked before any byte moves: the row of the first that is not readable, or else x
 unfoldable pub allRead : Tracks → List Lies → Got → Got
 allRead t [] x = x
-allRead t (a ∷ l) x = pick (readable (t (a .head)) (a .area)) (allRead t l x) (Fails (rowOf (a .area .part)))
+allRead t (a ∷ l) x = pick (readable (t (a .head)) (a .area)) (allRead t l x) (Got.Fails (rowOf (a .area .part)))
 
 -- what the count area says; the home address has none
 abbrev pub noCounts : Counts
@@ -210,7 +167,7 @@ countsIn Names.HomeAddress t h c = noCounts
 countsIn (Names.Count key body) t h c = countsAt (t h) c
 
 unfoldable pub gets : Names → Tracks → Head → ℕ → Got
-gets n t h c = allRead t (areasOf n t h c) (Sees (countsIn n t h c))
+gets n t h c = allRead t (areasOf n t h c) (Got.Sees (countsIn n t h c))
 
 -- the bytes of areas, part by part; a count area's are its counts
 pub record Seen : Type 0 where
@@ -276,7 +233,7 @@ sight t j v = record {
 -- the job's row is its code's, all areas that it names were readable, and its counts are those of the count area
 pub record Sighted (t : Tracks) (j : Job) : Type 0 where
   pub rule : j .rule ≡ ruleOf (j .code)
-  pub sees : gets (j .rule .names) t (j .task .head) (j .task .place) ≡ Sees (j .counts)
+  pub sees : gets (j .rule .names) t (j .task .head) (j .task .place) ≡ Got.Sees (j .counts)
 
 -- ---- how it ends
 
@@ -303,12 +260,12 @@ ends x e m l whole = endsAt x (x .job .task) e m l whole
 
 -- DL = 0, where the row says so: Unit Exception
 unfoldable pub endingOf : Job → Ending
-endingOf j = pick (both (j .rule .excepts) (eqb (j .counts .dl) 0)) Exception Normal
+endingOf j = pick (both (j .rule .excepts) (eqb (j .counts .dl) 0)) Ending.Exception Ending.Normal
 
 -- ---- 03 No-op
 
 unfoldable pub rests : Sight → Turn
-rests x = ends x Normal None [] false
+rests x = ends x Ending.Normal None [] false
 
 -- ---- 04 Sense: 6 bytes, bytes 2 to 5 zero
 
@@ -316,7 +273,7 @@ unfoldable pub senseBytes : Stands → List ℕ
 senseBytes s = s .sense .byte0 ∷ s .sense .byte1 ∷ 0 ∷ 0 ∷ 0 ∷ 0 ∷ []
 
 unfoldable pub senses : Sight → Turn
-senses x = ends x Normal (Gives (senseBytes (x .job .stands))) [] false
+senses x = ends x Ending.Normal (Gives (senseBytes (x .job .stands))) [] false
 
 -- ---- 07 Seek, 0B Seek Cylinder, 1B Seek Head: 6 bytes BB CC HH
 
@@ -333,7 +290,7 @@ unfoldable pub addressed : Shape → Seeking → Cylinder → List ℕ → Sough
 addressed g k c v = pick (ltb (length v) seekBytes) (Sought.Fails Row.BadSeek) (soughtBy g k c v)
 
 unfoldable pub arrives : Sight → Sought → Turn
-arrives x (Sought.Stands c h) = turn Normal (Takes seekBytes) (x .reads) [] (sought c h) (ordersAfter (x .job) (x .job .task) false)
+arrives x (Sought.Stands c h) = turn Ending.Normal (Takes seekBytes) (x .reads) [] (sought c h) (ordersAfter (x .job) (x .job .task) false)
 arrives x (Sought.Fails row) = fails x row
 
 unfoldable pub seeks : Shape → Seeking → Sight → Turn
@@ -346,7 +303,7 @@ maskBytes = 1
 
 unfoldable pub masked : Sight → ℕ → Turn
 masked x byte =
-    turn Normal (Takes maskBytes) (x .reads) [] (standsAfter (x .job) (x .job .task)) (ordered byte true (x .job .code) false 0 Nothing)
+    turn Ending.Normal (Takes maskBytes) (x .reads) [] (standsAfter (x .job) (x .job .task)) (ordered byte true (x .job .code) false 0 Selection.Nothing)
 
 unfoldable pub masks : Sight → ℕ → Turn
 masks x byte = pick (legal byte) (pick (x .job .orders .«mask_set») (fails x Row.SecondMask) (masked x byte)) (fails x Row.BadMask)
@@ -357,7 +314,7 @@ unfoldable pub spacedPlace : Sight → ℕ
 spacedPlace x = spaceRecord (x .marks) (x .job .stands .place) (isHome (ruleOf (x .job .orders .before) .aim))
 
 unfoldable pub spaces : Sight → Turn
-spaces x = endsAt x (task (x .job .task .head) (spacedPlace x) Nothing 0) Normal None [] false
+spaces x = endsAt x (task (x .job .task .head) (spacedPlace x) Selection.Nothing 0) Ending.Normal None [] false
 
 -- ---- searches: the first m bytes, m the smaller of the bytes sent and the field, as unsigned numbers
 
@@ -382,24 +339,24 @@ comparison f v = compared (number (take (length v) f)) (number (take (length f) 
 
 -- high means the track's is higher
 unfoldable pub satisfies : How → Compared → Bool
-satisfies IfEqual Low = false
-satisfies IfEqual Equal = true
-satisfies IfEqual High = false
-satisfies IfHigh Low = false
-satisfies IfHigh Equal = false
-satisfies IfHigh High = true
-satisfies IfEqualOrHigh Low = false
-satisfies IfEqualOrHigh Equal = true
-satisfies IfEqualOrHigh High = true
+satisfies How.IfEqual Compared.Low = false
+satisfies How.IfEqual Compared.Equal = true
+satisfies How.IfEqual Compared.High = false
+satisfies How.IfHigh Compared.Low = false
+satisfies How.IfHigh Compared.Equal = false
+satisfies How.IfHigh Compared.High = true
+satisfies How.IfEqualOrHigh Compared.Low = false
+satisfies How.IfEqualOrHigh Compared.Equal = true
+satisfies How.IfEqualOrHigh Compared.High = true
 
 -- a field of no bytes (KL = 0) satisfies nothing
 unfoldable pub found : How → Compared → ℕ → Bool
 found h x n = both (ltb 0 n) (satisfies h x)
 
 unfoldable pub equalOnly : How → Bool
-equalOnly IfEqual = true
-equalOnly IfHigh = false
-equalOnly IfEqualOrHigh = false
+equalOnly How.IfEqual = true
+equalOnly How.IfHigh = false
+equalOnly How.IfEqualOrHigh = false
 
 unfoldable pub satisfied : How → List ℕ → List ℕ → Bool
 satisfied h f v = found h (comparison f v) (length f)
@@ -410,7 +367,7 @@ wholly h f v = both (equalOnly h) (both (leb (length f) (length v)) (satisfied h
 
 -- it moves the m bytes and wants its whole field
 unfoldable pub comparesWith : How → Sight → List ℕ → Turn
-comparesWith h x f = ends x (pick (satisfied h f (x .sent)) Satisfied Normal) (Takes (length f)) [] (wholly h f (x .sent))
+comparesWith h x f = ends x (pick (satisfied h f (x .sent)) Ending.Satisfied Ending.Normal) (Takes (length f)) [] (wholly h f (x .sent))
 
 unfoldable pub compares : How → Sight → Turn
 compares h x = comparesWith h x (fieldOf (x .job .rule .names) (x .job .counts) (x .seen))
@@ -440,7 +397,7 @@ toEnd first v = v ++ replicate (trackCells - (first + length v)) gap
 
 -- 19
 unfoldable pub laysHome : Sight → Turn
-laysHome x = ends x Normal (Takes homeBytes) (piece x 0 (toEnd 0 (laid (padded homeBytes (x .sent)))) ∷ []) false
+laysHome x = ends x Ending.Normal (Takes homeBytes) (piece x 0 (toEnd 0 (laid (padded homeBytes (x .sent)))) ∷ []) false
 
 -- count, key and data of a new record; until its count is sent, 8 bytes
 unfoldable pub recordTakes : List ℕ → Counts → ℕ
@@ -449,7 +406,7 @@ recordTakes v n = pick (ltb (length v) countSent) countSent (countSent + n .kl +
 -- a new record, from a cell on, if it has room for so many cells there; where the task is then
 unfoldable pub laysNew : Sight → Task → ℕ → Counts → ℕ → List ℕ → Turn
 laysNew x k first n need v =
-    pick (fits first need) (endsAt x k Normal (Takes (recordTakes (x .sent) n)) (piece x first (toEnd first v) ∷ []) false) (fails x Row.NoRoom)
+    pick (fits first need) (endsAt x k Ending.Normal (Takes (recordTakes (x .sent) n)) (piece x first (toEnd first v) ∷ []) false) (fails x Row.NoRoom)
 
 -- 15: behind the home address
 unfoldable pub laysR0 : Sight → ℕ → Turn
@@ -459,7 +416,7 @@ laysR0 x flag =
 -- 1D: behind the record that it follows, its marker first; it is selected, and the place after it
 unfoldable pub laysRecord : Sight → ℕ → ℕ → Turn
 laysRecord x at flag =
-    laysNew x (task (x .job .task .head) (at + 1) (On (Spot.Marker at)) 0) at (newCounts flag (x .sent)) (needed (newCounts flag (x .sent)))
+    laysNew x (task (x .job .task .head) (at + 1) (Selection.On (Spot.Marker at)) 0) at (newCounts flag (x .sent)) (needed (newCounts flag (x .sent)))
     (marker ∷ newRecord flag (x .sent))
 
 -- 05 and 0D: an area of n bytes, if there are any, of those sent from one on
@@ -506,17 +463,17 @@ jobOf code r s o k n = record { code = code; rule = r; stands = s; orders = o; t
 
 -- the row that ends it before it acts: one of its plan's, then unreadable; or the job
 unfoldable pub hasRead : ℕ → Rule → Stands → Orders → Task → Got → Ready
-hasRead code r s o k (Sees n) = Ready.Acts (jobOf code r s o k n)
-hasRead code r s o k (Fails row) = Ready.Refuses row
+hasRead code r s o k (Got.Sees n) = Ready.Acts (jobOf code r s o k n)
+hasRead code r s o k (Got.Fails row) = Ready.Refuses row
 
 unfoldable pub readyBy : Tracks → ℕ → Rule → Stands → Orders → Plan → Ready
-readyBy t code r s o (Refuses row) = Ready.Refuses row
-readyBy t code r s o (Works k) = hasRead code r s o k (gets (r .names) t (k .head) (k .place))
+readyBy t code r s o (Plan.Refuses row) = Ready.Refuses row
+readyBy t code r s o (Plan.Works k) = hasRead code r s o k (gets (r .names) t (k .head) (k .place))
 
 -- the areas read by then
 unfoldable pub planReads : Tracks → Rule → Plan → List Lies
-planReads t r (Refuses row) = []
-planReads t r (Works k) = areasOf (r .names) t (k .head) (k .place)
+planReads t r (Plan.Refuses row) = []
+planReads t r (Plan.Works k) = areasOf (r .names) t (k .head) (k .place)
 
 unfoldable pub turnBy : Shape → Tracks → Stands → Orders → List ℕ → List Lies → Ready → Turn
 turnBy g t s o v reads (Ready.Refuses row) = checks s o reads row

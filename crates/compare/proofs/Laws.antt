@@ -12,7 +12,7 @@ use Rattle.cells.specs.Bytes.{numberFrom, number, part}
 use Rattle.cells.specs.Cells.{byteOf, bytesOf}
 use Rattle.cells.proofs.Laws.{length-bytesOf, getD-bytesOf, length-part, getD-part}
 use Rattle.cells.proofs.Numbers.{part-bytes, Bytes, number-less}
-use Rattle.compare.specs.declared.Compared.{Compared}
+use Rattle.compare.specs.declared.{Compared.Compared}
 use Rattle.compare.specs.declared.Compared.the-variants.{Low, Equal, High}
 use Rattle.compare.specs.Compare.{compared, comparedBytes, There}
 

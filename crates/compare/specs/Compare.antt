@@ -6,13 +6,12 @@ use lib.Dec.{ltb, eqb}
 use Rattle.cells.specs.Choice.{pick}
 use Rattle.cells.specs.Bytes.{number, part}
 use Rattle.cells.specs.Cells.{bytesOf}
-use Rattle.compare.specs.declared.Compared.{Compared}
-use Rattle.compare.specs.declared.Compared.the-variants.{Low, Equal, High}
+use Rattle.compare.specs.declared.{Compared.Compared}
 
 -- how the track's number stands to storage's
 unfoldable pub compared : ℕ → ℕ → Compared
 compared onTrack inStorage =
-    pick (eqb onTrack inStorage) Equal (pick (ltb inStorage onTrack) High Low)
+    pick (eqb onTrack inStorage) Compared.Equal (pick (ltb inStorage onTrack) Compared.High Compared.Low)
 
 -- m bytes of the track from a cell on, and m bytes of storage from an address on
 unfoldable pub comparedBytes : List ℕ → ℕ → List ℕ → ℕ → ℕ → Compared

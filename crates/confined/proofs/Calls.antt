@@ -8,16 +8,15 @@ use lib.ListN.{length, getD}
 use Rattle.cells.specs.Choice.{pick}
 use Rattle.cells.specs.Cells.{trackCells}
 use Rattle.cells.proofs.Tests.{pick-all}
-use Rattle.words.specs.declared.Begun.{Begun}
+use Rattle.words.specs.declared.{Begun.Begun, Tested.Tested}
 use Rattle.words.specs.declared.Begun.the-variants.{Begins, Refused}
-use Rattle.words.specs.declared.Tested.{Tested}
 use Rattle.words.specs.declared.Tested.the-variants.{Obey, Jump, Bad}
 use Rattle.words.specs.Words.{begunBy}
-use Rattle.pack.specs.declared.Shape.{Shape}
+use Rattle.pack.specs.declared.{Shape.Shape}
 use Rattle.chain.specs.Step.{World, run}
 use Rattle.chain.specs.Legal.{Legal}
 use Rattle.host.specs.declared.Answer.the-variants.{BadStart, NoChain, ChainGoing}
-use Rattle.host.specs.declared.Guarded.{Guarded}
+use Rattle.host.specs.declared.{Guarded.Guarded}
 use Rattle.host.specs.declared.Guarded.the-variants.{Passes, Answers}
 use Rattle.host.specs.Host.{Hears, hears, guardOf, guards, refusesStart, firstWord, begins, starts, ran, goes}
 use Rattle.host.proofs.Laws.{passes-legal}

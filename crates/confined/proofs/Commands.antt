@@ -11,21 +11,15 @@ use Rattle.table.specs.Table.{isWrite}
 use Rattle.cells.specs.Choice.{both}
 use Rattle.cells.specs.Bytes.{overlay}
 use Rattle.cells.proofs.Laws.{overlay-none}
-use Rattle.words.specs.declared.Word.{Word}
-use Rattle.areas.specs.declared.Counts.{Counts}
+use Rattle.words.specs.declared.{Word.Word}
+use Rattle.areas.specs.declared.{Counts.Counts}
 use Rattle.hunt.specs.Hunt.{Whole}
-use Rattle.pack.specs.declared.Shape.{Shape}
-use Rattle.held.specs.declared.Selection.{Selection}
-use Rattle.held.specs.declared.Stands.{Stands}
-use Rattle.held.specs.declared.Orders.{Orders}
-use Rattle.table.specs.declared.Write.{Write}
-use Rattle.table.specs.declared.Write.the-variants as Write
-use Rattle.table.specs.declared.Act.{Act}
-use Rattle.table.specs.declared.Act.the-variants as Act
-use Rattle.table.specs.declared.Rule.{Rule}
+use Rattle.pack.specs.declared.{Shape.Shape}
+use Rattle.held.specs.declared.{Selection.Selection, Stands.Stands, Orders.Orders}
+use Rattle.table.specs.declared.{Write.Write, Act.Act, Rule.Rule}
 use Rattle.table.specs.Table.{ruleOf}
 use Rattle.turn.specs.Turn.{Tracks, Piece, Moves, None, Gives, Takes, given, movingOf, wants, Turn, toldOf, laid, isCheck, checks}
-use Rattle.command.specs.declared.Task.{Task}
+use Rattle.command.specs.declared.{Task.Task}
 use Rattle.command.specs.Command.{Sight, sight, allRecorded, goesOver, writesOver, lays, acts, jobOf, command}
 use Rattle.frame.specs.Frame.{givesBytes}
 use Rattle.frame.proofs.Acts.{acts-keeps}

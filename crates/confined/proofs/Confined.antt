@@ -1,5 +1,5 @@
 -- Demand 2, what may change: by the command, the word, the allowance, the call, and where a record does not fit.
-use Rattle.pack.specs.declared.Shape.{Shape}
+use Rattle.pack.specs.declared.{Shape.Shape}
 use Rattle.confined.specs.Confined.{Confined}
 use Rattle.confined.proofs.Commands.{command-confined}
 use Rattle.confined.proofs.Room.{room-kept}

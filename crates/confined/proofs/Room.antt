@@ -7,35 +7,26 @@ use mathlib.Core.List.{List, []}
 use lib.Dec.{ltb}
 use Rattle.cells.specs.Choice.{pick, both}
 use Rattle.cells.proofs.Tests.{first-of, first-picked, second-picked}
-use Rattle.rows.specs.declared.Row.the-variants as Row
+use Rattle.rows.specs.declared.{Row.Row}
 use Rattle.rows.specs.Rows.{senseOf}
-use Rattle.areas.specs.declared.Counts.{Counts}
+use Rattle.areas.specs.declared.{Counts.Counts}
 use Rattle.areas.specs.Areas.{homeFlag, zeroFirst, countsOf, countsAt, keyCells, recordCells, endBy, needed}
 use Rattle.areas.specs.Flags.{flagOfZero, flagAfter}
-use Rattle.hunt.specs.declared.Spot.{Spot}
-use Rattle.hunt.specs.declared.Spot.the-variants as Spot
+use Rattle.hunt.specs.declared.{Spot.Spot}
 use Rattle.hunt.specs.Hunt.{countFirst}
 use Rattle.room.specs.Room.{fits}
-use Rattle.pack.specs.declared.Shape.{Shape}
-use Rattle.held.specs.declared.Selection.{Selection}
+use Rattle.pack.specs.declared.{Shape.Shape}
+use Rattle.held.specs.declared.{Selection.Selection, Stands.Stands, Orders.Orders}
 use Rattle.held.specs.declared.Selection.the-variants.{Nothing, On}
-use Rattle.held.specs.declared.Stands.{Stands}
-use Rattle.held.specs.declared.Orders.{Orders}
-use Rattle.command.specs.declared.Got.{Got}
+use Rattle.command.specs.declared.{Got.Got, Task.Task, Plan.Plan}
 use Rattle.command.specs.declared.Got.the-variants.{Sees}
 use Rattle.command.specs.Command.{mostTally}
 use Rattle.turn.specs.Turn.{sensing, standing}
 use Rattle.laying.specs.Laying.{newCounts}
-use Rattle.table.specs.declared.Write.{Write}
-use Rattle.table.specs.declared.Write.the-variants as Write
-use Rattle.table.specs.declared.Act.{Act}
-use Rattle.table.specs.declared.Act.the-variants as Act
-use Rattle.table.specs.declared.Rule.{Rule}
+use Rattle.table.specs.declared.{Write.Write, Act.Act, Rule.Rule}
 use Rattle.table.specs.Table.{ruleOf}
 use Rattle.turn.specs.Turn.{Tracks, movingOf, wants, Turn, toldOf, checks}
 use Rattle.rows.specs.Rows.{rowTakes}
-use Rattle.command.specs.declared.Task.{Task}
-use Rattle.command.specs.declared.Plan.{Plan}
 use Rattle.command.specs.declared.Plan.the-variants.{Refuses, Works}
 use Rattle.command.specs.Command.{marksOf, licensed, task, tallies, onRecord, onSelected, aimed, plans, areasOf, gets, Sight, areasRead, sight, fails, laysNew, laysR0, laysRecord, lays, acts, jobOf, hasRead, readyBy, planReads, turnBy, obeys, command}
 use Rattle.channel.specs.Channel.{moved}

@@ -14,15 +14,12 @@ use Rattle.cells.specs.Choice.{pick, both}
 use Rattle.cells.specs.Cells.{trackCells}
 use Rattle.cells.proofs.Marks.{both-never}
 use Rattle.cells.proofs.Tests.{first-of, second-of}
-use Rattle.words.specs.declared.Tested.{Tested}
+use Rattle.words.specs.declared.{Tested.Tested}
 use Rattle.words.specs.declared.Tested.the-variants.{Obey, Jump, Bad}
-use Rattle.pack.specs.declared.Shape.{Shape}
+use Rattle.pack.specs.declared.{Shape.Shape}
 use Rattle.pack.specs.Tracks.{trackNo, startOf}
-use Rattle.held.specs.declared.Selection.{Selection}
-use Rattle.held.specs.declared.Orders.{Orders}
-use Rattle.table.specs.declared.Act.{Act}
-use Rattle.table.specs.declared.Act.the-variants as Act
-use Rattle.table.specs.declared.Rule.{Rule}
+use Rattle.held.specs.declared.{Selection.Selection, Orders.Orders}
+use Rattle.table.specs.declared.{Act.Act, Rule.Rule}
 use Rattle.table.specs.Table.{ruleOf}
 use Rattle.command.specs.Command.{licensed}
 use Rattle.chain.specs.Step.{World, under, selected, next, step, run, testedWrites}

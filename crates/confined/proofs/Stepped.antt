@@ -10,14 +10,12 @@ use Rattle.cells.specs.Choice.{pick, both}
 use Rattle.cells.specs.Bytes.{overlay}
 use Rattle.cells.specs.Cells.{trackCells}
 use Rattle.cells.proofs.Laws.{getD-part, length-overlay, overlay-same}
-use Rattle.rows.specs.declared.Row.{Row}
-use Rattle.words.specs.declared.Word.{Word}
-use Rattle.words.specs.declared.Status.{Status}
-use Rattle.words.specs.declared.Tested.{Tested}
+use Rattle.rows.specs.declared.{Row.Row}
+use Rattle.words.specs.declared.{Word.Word, Status.Status, Tested.Tested}
 use Rattle.words.specs.declared.Tested.the-variants.{Obey, Jump, Bad}
 use Rattle.words.specs.Status.{statusAt, statusBytes, stored}
 use Rattle.words.proofs.Obeys.{TestedIn, tested-in}
-use Rattle.pack.specs.declared.Shape.{Shape}
+use Rattle.pack.specs.declared.{Shape.Shape}
 use Rattle.pack.specs.Tracks.{trackAt, withTrack}
 use Rattle.pack.proofs.Laws.{others-kept}
 use Rattle.turn.specs.declared.Ending.the-variants.{Check}

@@ -14,19 +14,17 @@ use Rattle.cells.specs.Cells.{trackCells}
 use Rattle.cells.proofs.Laws.{length-overlay}
 use Rattle.cells.proofs.Tests.{both-of}
 use Rattle.house_check.specs.Area as Area
-use Rattle.areas.specs.declared.Area.{Area}
-use Rattle.areas.specs.declared.Counts.{Counts}
+use Rattle.areas.specs.declared.{Area.Area, Counts.Counts}
 use Rattle.areas.specs.Areas.{homeBytes, zeroFirst, keyArea, dataArea, endBy, needed}
 use Rattle.areas.specs.Flags.{flagAfter}
 use Rattle.room.specs.Room.{fits}
 use Rattle.room.proofs.Laws.{fits-ends}
-use Rattle.pack.specs.declared.Head.{Head}
+use Rattle.pack.specs.declared.{Head.Head}
 use Rattle.command.specs.Command.{named}
 use Rattle.laying.proofs.Laws.{length-area, length-new}
-use Rattle.table.specs.declared.Write.{Write}
-use Rattle.table.specs.declared.Write.the-variants as Write
+use Rattle.table.specs.declared.{Write.Write}
 use Rattle.turn.specs.Turn.{Piece, Turn, laid, checks}
-use Rattle.command.specs.declared.Task.{Task}
+use Rattle.command.specs.declared.{Task.Task}
 use Rattle.command.specs.Command.{Sight, writesOver, allRecorded, fails, ends, endsAt, piece, toEnd, laysHome, laysNew, laysR0, laysRecord, over, keySent, updates, lays}
 use Rattle.command.proofs.Pieces.{length-to-end, Over, over-in}
 use Rattle.frame.specs.Frame.{LaysUnder}

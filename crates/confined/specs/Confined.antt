@@ -12,41 +12,26 @@ use lib.ListN.{length, getD}
 use lib.Dec.{ltb, leb, eqb}
 use Rattle.cells.specs.Choice.{pick, both, either}
 use Rattle.cells.specs.Cells.{trackCells, gap}
-use Rattle.rows.specs.declared.Row.{Row}
-use Rattle.rows.specs.declared.Row.the-variants.{NoRoom}
+use Rattle.rows.specs.declared.{Row.Row}
 use Rattle.rows.specs.Rows.{sense}
 use Rattle.mask.specs.Mask.{barsSeek, barsWrite}
-use Rattle.words.specs.declared.Word.{Word}
-use Rattle.words.specs.declared.Tested.{Tested}
-use Rattle.words.specs.declared.Tested.the-variants.{Obey, Jump, Bad}
+use Rattle.words.specs.declared.{Word.Word, Tested.Tested}
 use Rattle.words.specs.Words.{wordBytes}
 use Rattle.words.specs.Status.{statusAt}
 use Rattle.house_check.specs.Area.{checkBytes}
-use Rattle.areas.specs.declared.Area.{Area}
-use Rattle.areas.specs.declared.Counts.{Counts}
+use Rattle.areas.specs.declared.{Area.Area, Counts.Counts}
 use Rattle.areas.specs.Areas.{homeArea, homeFlag, zeroFirst, countsAt, keyArea, dataArea, recordCells, endBy, needed}
 use Rattle.areas.specs.Flags.{flagOfZero, flagAfter}
-use Rattle.hunt.specs.declared.Spot.{Spot}
-use Rattle.hunt.specs.declared.Spot.the-variants as Spot
+use Rattle.hunt.specs.declared.{Spot.Spot}
 use Rattle.hunt.specs.Hunt.{Whole, countFirst}
 use Rattle.room.specs.Room.{fits}
-use Rattle.pack.specs.declared.Head.{Head}
-use Rattle.pack.specs.declared.Shape.{Shape}
+use Rattle.pack.specs.declared.{Head.Head, Shape.Shape}
 use Rattle.pack.specs.Tracks.{trackNo}
-use Rattle.held.specs.declared.Selection.{Selection}
-use Rattle.held.specs.declared.Selection.the-variants.{Nothing, On}
-use Rattle.held.specs.declared.Stands.{Stands}
-use Rattle.held.specs.declared.Orders.{Orders}
-use Rattle.command.specs.declared.Got.the-variants.{Sees}
-use Rattle.turn.specs.declared.Ending.the-variants.{Check}
+use Rattle.held.specs.declared.{Selection.Selection, Stands.Stands, Orders.Orders}
+use Rattle.command.specs.declared.{Got.Got}
+use Rattle.turn.specs.declared.{Ending.Ending}
 use Rattle.laying.specs.Laying.{newCounts}
-use Rattle.table.specs.declared.Bar.{Bar}
-use Rattle.table.specs.declared.Bar.the-variants as Bar
-use Rattle.table.specs.declared.Write.{Write}
-use Rattle.table.specs.declared.Write.the-variants as Write
-use Rattle.table.specs.declared.Act.{Act}
-use Rattle.table.specs.declared.Act.the-variants as Act
-use Rattle.table.specs.declared.Rule.{Rule}
+use Rattle.table.specs.declared.{Bar.Bar, Write.Write, Act.Act, Rule.Rule}
 use Rattle.table.specs.Table.{ruleOf}
 use Rattle.turn.specs.Turn.{Tracks, Piece, given, toldOf, laid, checks}
 use Rattle.command.specs.Command.{licensed, areasOf, gets, command}
@@ -54,9 +39,7 @@ use Rattle.frame.specs.Frame.{givesBytes}
 use Rattle.channel.specs.Channel.{placed, moved, goesOn}
 use Rattle.chain.specs.Step.{World, under, selected, next, turnOf, step, run, testedWrites}
 use Rattle.chain.specs.Legal.{Legal}
-use Rattle.host.specs.declared.Answer.the-variants.{BadStart}
-use Rattle.host.specs.declared.Guarded.{Guarded}
-use Rattle.host.specs.declared.Guarded.the-variants.{Passes, Answers}
+use Rattle.host.specs.declared.{Answer.Answer, Guarded.Guarded}
 use Rattle.host.specs.Host.{guardOf, starts, goes}
 
 -- ---- which cells of the track under the head a command may change
@@ -86,14 +69,14 @@ reaches (Write.Update key) c n i = either (both key (inKey c n i)) (inData c n i
 
 -- the record that it takes: R0 for the two that go to the index, else the one selected
 unfoldable pub takes : Write → Selection → Selection
-takes Write.HomeAddress x = On Spot.Zero
-takes Write.R0 x = On Spot.Zero
+takes Write.HomeAddress x = Selection.On Spot.Zero
+takes Write.R0 x = Selection.On Spot.Zero
 takes Write.CountKeyData x = x
 takes (Write.Update key) x = x
 
 unfoldable pub reachesFrom : Write → List ℕ → Selection → ℕ → Bool
-reachesFrom k t Nothing i = false
-reachesFrom k t (On spot) i = reaches k (countFirst spot) (countsAt t (countFirst spot)) i
+reachesFrom k t Selection.Nothing i = false
+reachesFrom k t (Selection.On spot) i = reaches k (countFirst spot) (countsAt t (countFirst spot)) i
 
 unfoldable pub actReaches : Act → List ℕ → Selection → ℕ → Bool
 actReaches (Act.Control a) t x i = false
@@ -139,7 +122,7 @@ pub record CommandConfined (g : Shape) (t : Tracks) (s : Stands) (o : Orders) (c
   pub unlicensed : licensed (ruleOf code .licence) o ≡ false → leaves g t s o code v ≡ t (s .head)
   pub barred : bars (ruleOf code .bar) (o .mask) ≡ true → leaves g t s o code v ≡ t (s .head)
   -- "a command that ends in Unit Check changes no cell"
-  pub checks : (row : Row) → command g t s o code v .ending ≡ Check row → leaves g t s o code v ≡ t (s .head)
+  pub checks : (row : Row) → command g t s o code v .ending ≡ Ending.Check row → leaves g t s o code v ≡ t (s .head)
   -- "Storage changes only where a read or Sense put its bytes"
   pub storage : (w : Word) (st : List ℕ) → w .address + w .count ≤ length st → (i : ℕ)
       → mayStore (ruleOf code .act) w (moved w (toldOf (command g t s o code v))) i ≡ false
@@ -149,10 +132,10 @@ pub record CommandConfined (g : Shape) (t : Tracks) (s : Stands) (o : Orders) (c
 
 -- cells of the pack
 unfoldable pub wordChanges : Shape → World → ℕ → Tested → Bool
-wordChanges g w i (Obey d) =
+wordChanges g w i (Tested.Obey d) =
     both (among (under g (w .held)) trackCells i) (mayChange (ruleOf (d .code)) (w .held .orders) (selected g w) (i - under g (w .held)))
-wordChanges g w i (Jump a) = false
-wordChanges g w i (Bad cause) = false
+wordChanges g w i (Tested.Jump a) = false
+wordChanges g w i (Tested.Bad cause) = false
 
 unfoldable pub changes : Shape → World → ℕ → Bool
 changes g w i = wordChanges g w i (next w)
@@ -162,10 +145,10 @@ abbrev pub inStatus : ℕ → Bool
 inStatus i = among statusAt wordBytes i
 
 unfoldable pub wordStores : Shape → World → ℕ → Tested → Bool
-wordStores g w i (Obey d) =
+wordStores g w i (Tested.Obey d) =
     either (mayStore (ruleOf (d .code) .act) d (moved d (toldOf (turnOf g w d))) i) (both (not (goesOn d (toldOf (turnOf g w d)))) (inStatus i))
-wordStores g w i (Jump a) = false
-wordStores g w i (Bad cause) = inStatus i
+wordStores g w i (Tested.Jump a) = false
+wordStores g w i (Tested.Bad cause) = inStatus i
 
 unfoldable pub stores : Shape → World → ℕ → Bool
 stores g w i = wordStores g w i (next w)
@@ -174,7 +157,7 @@ pub record StepConfined (g : Shape) (w : World) : Type 0 where
   pub cells : (i : ℕ) → changes g w i ≡ false → getD (step g w .cells) i gap ≡ getD (w .cells) i gap
   -- "cells outside the selected track never change"
   pub elsewhere : (i : ℕ) → (i < under g (w .held)) ⊎ (under g (w .held) + trackCells ≤ i) → getD (step g w .cells) i gap ≡ getD (w .cells) i gap
-  pub checks : (d : Word) → next w ≡ Obey d → (row : Row) → turnOf g w d .ending ≡ Check row → step g w .cells ≡ w .cells
+  pub checks : (d : Word) → next w ≡ Tested.Obey d → (row : Row) → turnOf g w d .ending ≡ Ending.Check row → step g w .cells ≡ w .cells
   pub long : length (step g w .cells) ≡ length (w .cells)
   -- ".. and in bytes 64 to 71 by a stored status word"
   pub storage : (i : ℕ) → stores g w i ≡ false → getD (step g w .storage) i 0 ≡ getD (w .storage) i 0
@@ -209,8 +192,8 @@ pub record RunConfined (g : Shape) (n : ℕ) (w : World) : Type 0 where
 -- ---- what a host's call changes: nothing where it is refused; a start no cell, and of storage bytes 68 and 69 by answer 5
 
 unfoldable pub ifPasses : Guarded → Bool → Bool
-ifPasses Passes b = b
-ifPasses (Answers a) b = true
+ifPasses Guarded.Passes b = b
+ifPasses (Guarded.Answers a) b = true
 
 pub record CallConfined (g : Shape) (n : ℕ) (w : World) : Type 0 where
   pub cells : (i : ℕ) → ifPasses (guardOf g w) (sparesCell g i n w) ≡ true → getD (goes g n w .left .cells) i gap ≡ getD (w .cells) i gap
@@ -218,7 +201,7 @@ pub record CallConfined (g : Shape) (n : ℕ) (w : World) : Type 0 where
       → getD (goes g n w .left .cells) (m * trackCells + i) gap ≡ getD (w .cells) (m * trackCells + i) gap
   pub storage : (i : ℕ) → ifPasses (guardOf g w) (sparesByte g i n w) ≡ true → getD (goes g n w .left .storage) i 0 ≡ getD (w .storage) i 0
   pub start-cells : starts g w .left .cells ≡ w .cells
-  pub start-else : (starts g w .answer ≡ BadStart → ⊥) → starts g w .left .storage ≡ w .storage
+  pub start-else : (starts g w .answer ≡ Answer.BadStart → ⊥) → starts g w .left .storage ≡ w .storage
   pub start-storage : (i : ℕ) → among 68 2 i ≡ false → getD (starts g w .left .storage) i 0 ≡ getD (w .storage) i 0
 
 -- ---- "no write that doesn't fit changes a cell, whichever row it gets; if no earlier row holds it gets 00 40 and moves the lesser of count and 8."
@@ -235,13 +218,13 @@ pub record NoRowBefore (t : Tracks) (s : Stands) (o : Orders) (code : ℕ) (spot
   pub licence : licensed (ruleOf code .licence) o ≡ true
   pub mask : bars (ruleOf code .bar) (o .mask) ≡ false
   pub counts : Counts
-  pub reads : gets (ruleOf code .names) t (s .head) (countFirst spot) ≡ Sees counts
+  pub reads : gets (ruleOf code .names) t (s .head) (countFirst spot) ≡ Got.Sees counts
 
 -- a write that has no room
 pub record RoomKept (g : Shape) (t : Tracks) (s : Stands) (o : Orders) (code : ℕ) (v : List ℕ) (spot : Spot) : Type 0 where
   pub cells : leaves g t s o code v ≡ t (s .head)
   pub row : NoRowBefore t s o code spot
-      → command g t s o code v ≡ checks s o (areasOf (ruleOf code .names) t (s .head) (countFirst spot)) NoRoom
+      → command g t s o code v ≡ checks s o (areasOf (ruleOf code .names) t (s .head) (countFirst spot)) Row.NoRoom
   pub moved : NoRowBefore t s o code spot → (w : Word) → moved w (toldOf (command g t s o code v)) ≡ min (w .count) 8
   pub shown : NoRowBefore t s o code spot → command g t s o code v .stands .sense ≡ sense 0x00 0x40
 
@@ -253,4 +236,4 @@ pub record Confined (g : Shape) : Type 0 where
   pub allowance : (n : ℕ) (w : World) → Legal g w → RunConfined g n w
   pub call : (n : ℕ) (w : World) → CallConfined g n w
   pub room : (t : Tracks) (s : Stands) (o : Orders) (code : ℕ) (v : List ℕ) (k : Write) (spot : Spot) → ruleOf code .act ≡ Act.Write k
-      → takes k (o .selection) ≡ On spot → hasRoom k (countFirst spot) v (t (s .head)) ≡ false → RoomKept g t s o code v spot
+      → takes k (o .selection) ≡ Selection.On spot → hasRoom k (countFirst spot) v (t (s .head)) ≡ false → RoomKept g t s o code v spot

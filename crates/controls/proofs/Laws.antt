@@ -11,18 +11,17 @@ use Rattle.cells.specs.Choice.{pick}
 use Rattle.cells.specs.Bytes.{overlay}
 use Rattle.cells.specs.Cells.{marks}
 use Rattle.cells.proofs.Laws.{take-min, put-more}
-use Rattle.rows.specs.declared.Row.the-variants as Row
+use Rattle.rows.specs.declared.{Row.Row}
 use Rattle.mask.specs.Mask.{legal}
 use Rattle.hunt.specs.Hunt.{spaceRecord}
 use Rattle.held.specs.declared.Selection.the-variants.{Nothing}
-use Rattle.held.specs.declared.Stands.{Stands}
+use Rattle.held.specs.declared.{Stands.Stands}
 use Rattle.turn.specs.declared.Ending.the-variants.{Normal}
-use Rattle.table.specs.declared.Rule.{Rule}
+use Rattle.table.specs.declared.{Rule.Rule}
 use Rattle.table.specs.Table.{ruleOf, isHome}
-use Rattle.turn.specs.declared.Told.{Told}
-use Rattle.turn.specs.declared.Moving.the-variants as Moving
+use Rattle.turn.specs.declared.{Told.Told, Moving.Moving}
 use Rattle.turn.specs.Turn.{alone, movingOf, toldOf}
-use Rattle.command.specs.declared.Job.{Job}
+use Rattle.command.specs.declared.{Job.Job}
 use Rattle.command.specs.Command.{task, Sight, sight, fails, endsAt, senseBytes, masked, masks, spacedPlace, spaces}
 use Rattle.ending.specs.Ending.{endedAt}
 

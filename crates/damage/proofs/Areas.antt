@@ -16,10 +16,10 @@ use Rattle.cells.proofs.Laws.{getD-part}
 use Rattle.cells.proofs.Marks.{getD-marks}
 use Rattle.cells.proofs.Tests.{first-of, second-of}
 use Rattle.house_check.specs.Area.{checkBytes, agrees, goodCells}
-use Rattle.areas.specs.declared.Area.{Area}
+use Rattle.areas.specs.declared.{Area.Area}
 use Rattle.areas.specs.Areas.{areaCells, readable, homeArea, countArea, countsAt, keyArea, dataArea, recordCells, endBy}
 use Rattle.areas.proofs.Laws.{no-key, some-key}
-use Rattle.hunt.specs.declared.Spot.{Spot}
+use Rattle.hunt.specs.declared.{Spot.Spot}
 use Rattle.hunt.specs.declared.Spot.the-variants.{Zero, Marker}
 use Rattle.hunt.specs.Hunt.{countFirst, spotFits}
 use Rattle.sound.specs.Sound.{endAt, Record, Records, none, more, Sound}

@@ -17,9 +17,8 @@ use Rattle.cells.specs.Cells.{markAt, marks}
 use Rattle.cells.proofs.Marks.{length-marks, getD-marks, mark-none}
 use Rattle.cells.proofs.Tests.{first-of, second-of, both-of}
 use Rattle.house_check.proofs.Cells.{burst-cells}
-use Rattle.areas.specs.declared.Part.{Part}
+use Rattle.areas.specs.declared.{Part.Part, Area.Area}
 use Rattle.areas.specs.declared.Part.the-variants.{Home, Count, Key, Data}
-use Rattle.areas.specs.declared.Area.{Area}
 use Rattle.areas.specs.Areas.{area, areaCells, readable}
 use Rattle.areas.proofs.Laws.{length-areaCells}
 use Rattle.sound.specs.Sound.{Sound}

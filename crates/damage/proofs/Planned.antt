@@ -9,30 +9,18 @@ use lib.Dec.{ltb}
 use borrow.Author.Tests.{ltb-false, not-true}
 use Rattle.cells.specs.Choice.{pick, both, either}
 use Rattle.cells.proofs.Tests.{pick-all}
-use Rattle.rows.specs.declared.Row.{Row}
-use Rattle.rows.specs.declared.Row.the-variants as Row
+use Rattle.rows.specs.declared.{Row.Row}
 use Rattle.mask.specs.Mask.{barsSeek, barsWrite}
-use Rattle.hunt.specs.declared.Spot.{Spot}
-use Rattle.hunt.specs.declared.Spot.the-variants as Spot
-use Rattle.hunt.specs.declared.Next.{Next}
-use Rattle.hunt.specs.declared.Next.the-variants as Next
+use Rattle.hunt.specs.declared.{Spot.Spot, Next.Next}
 use Rattle.hunt.specs.Hunt.{spotFits, countFirst}
 use Rattle.hunt.proofs.Inside.{NextOn, next-on, id-on}
-use Rattle.held.specs.declared.Selection.{Selection}
+use Rattle.held.specs.declared.{Selection.Selection, Stands.Stands, Orders.Orders}
 use Rattle.held.specs.declared.Selection.the-variants.{Nothing, On}
-use Rattle.held.specs.declared.Stands.{Stands}
-use Rattle.held.specs.declared.Orders.{Orders}
 use Rattle.command.specs.Command.{homePlace, mostTally, SelectedOn}
-use Rattle.table.specs.declared.Bar.{Bar}
-use Rattle.table.specs.declared.Bar.the-variants as Bar
-use Rattle.table.specs.declared.Aim.{Aim}
-use Rattle.table.specs.declared.Aim.the-variants as Aim
-use Rattle.table.specs.declared.Names.{Names}
-use Rattle.table.specs.declared.Names.the-variants as Names
-use Rattle.table.specs.declared.Rule.{Rule}
+use Rattle.table.specs.declared.{Bar.Bar, Aim.Aim, Names.Names, Rule.Rule}
 use Rattle.table.specs.Table.{controls, searches, reads, writes, ruleOf}
 use Rattle.table.proofs.Laws.{each, every, of-every}
-use Rattle.command.specs.declared.Plan.{Plan}
+use Rattle.command.specs.declared.{Plan.Plan}
 use Rattle.command.specs.declared.Plan.the-variants.{Refuses, Works}
 use Rattle.command.specs.Command.{Marks, licensed, task, tallies, onRecord, onNext, onSelected, toNext, toServed, aimed, unlessBarred, plans}
 

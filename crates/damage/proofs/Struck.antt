@@ -12,25 +12,18 @@ use Rattle.table.specs.Table.{isWrite}
 use Rattle.cells.specs.Choice.{either}
 use Rattle.cells.specs.Cells.{marks}
 use Rattle.cells.proofs.Tests.{pick-all, second-of}
-use Rattle.areas.specs.declared.Area.{Area}
-use Rattle.areas.specs.declared.Counts.{Counts}
-use Rattle.areas.specs.declared.CountRead.{CountRead}
-use Rattle.areas.specs.declared.CountRead.the-variants as CountRead
+use Rattle.areas.specs.declared.{Area.Area, Counts.Counts, CountRead.CountRead}
 use Rattle.areas.specs.Areas.{readable, rowOf, countArea, countsAt, readCount, keyArea, dataArea}
-use Rattle.hunt.specs.declared.Spot.{Spot}
+use Rattle.hunt.specs.declared.{Spot.Spot}
 use Rattle.hunt.specs.Hunt.{countFirst}
-use Rattle.pack.specs.declared.Head.{Head}
-use Rattle.pack.specs.declared.Shape.{Shape}
-use Rattle.held.specs.declared.Stands.{Stands}
-use Rattle.held.specs.declared.Orders.{Orders}
+use Rattle.pack.specs.declared.{Head.Head, Shape.Shape}
+use Rattle.held.specs.declared.{Stands.Stands, Orders.Orders}
 use Rattle.command.specs.Command.{areaIf, named, namedBy}
 use Rattle.command.specs.Command.{SelectedOn}
-use Rattle.table.specs.declared.Names.{Names}
-use Rattle.table.specs.declared.Names.the-variants as Names
-use Rattle.table.specs.declared.Rule.{Rule}
+use Rattle.table.specs.declared.{Names.Names, Rule.Rule}
 use Rattle.table.specs.Table.{ruleOf}
 use Rattle.turn.specs.Turn.{Tracks, Lies, checks}
-use Rattle.command.specs.declared.Plan.{Plan}
+use Rattle.command.specs.declared.{Plan.Plan}
 use Rattle.command.specs.Command.{marksOf, liesOn, areasOf, planReads, command}
 use Rattle.frame.specs.Frame.{AllSame, Breaks, ReadsUnder}
 use Rattle.frame.proofs.Turns.{command-reads}

@@ -9,11 +9,9 @@ use lib.Dec.{eqb}
 use Rattle.cells.specs.Choice.{both, either}
 use Rattle.cells.specs.Cells.{gap, isByte, bytesOf, marks}
 use Rattle.house_check.specs.Area.{checkBytes, Burst, window}
-use Rattle.areas.specs.declared.Part.{Part}
-use Rattle.areas.specs.declared.Part.the-variants.{Home, Count, Key, Data}
-use Rattle.areas.specs.declared.Area.{Area}
+use Rattle.areas.specs.declared.{Part.Part, Area.Area}
 use Rattle.areas.specs.Areas.{areaCells, homeArea, countArea, keyArea, dataArea, countsAt}
-use Rattle.hunt.specs.declared.Spot.{Spot}
+use Rattle.hunt.specs.declared.{Spot.Spot}
 use Rattle.hunt.specs.Hunt.{countFirst, spotFits}
 
 -- ---- the areas of a track
@@ -51,10 +49,10 @@ any hit (a ∷ l) = either (hit a) (any hit l)
 
 -- the four parts by number
 unfoldable pub partNo : Part → ℕ
-partNo Home = 0
-partNo Count = 1
-partNo Key = 2
-partNo Data = 3
+partNo Part.Home = 0
+partNo Part.Count = 1
+partNo Part.Key = 2
+partNo Part.Data = 3
 
 -- whether two areas are one
 unfoldable pub sameArea : Area → Area → Bool

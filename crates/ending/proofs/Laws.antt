@@ -2,12 +2,11 @@
 use mathlib.Core.Path.{_≡_, refl}
 use mathlib.Core.Bool.{Bool}
 use mathlib.Core.List.{List}
-use Rattle.rows.specs.declared.Row.{Row}
-use Rattle.held.specs.declared.Stands.{Stands}
-use Rattle.held.specs.declared.Orders.{Orders}
-use Rattle.turn.specs.declared.Ending.{Ending}
+use Rattle.rows.specs.declared.{Row.Row}
+use Rattle.held.specs.declared.{Stands.Stands, Orders.Orders}
+use Rattle.turn.specs.declared.{Ending.Ending}
 use Rattle.turn.specs.Turn.{Lies, Piece, Moves, movingOf, toldOf, checks}
-use Rattle.command.specs.declared.Task.{Task}
+use Rattle.command.specs.declared.{Task.Task}
 use Rattle.command.specs.Command.{Sight, fails, endsAt, ends}
 use Rattle.ending.specs.Ending.{endedAt, failedAt}
 

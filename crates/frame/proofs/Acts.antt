@@ -9,29 +9,17 @@ use lib.Dec.{ltb, eqb}
 use Rattle.table.specs.Table.{isWrite}
 use Rattle.cells.specs.Choice.{both}
 use Rattle.cells.proofs.Tests.{pick-all}
-use Rattle.rows.specs.declared.Row.{Row}
-use Rattle.rows.specs.declared.Row.the-variants as Row
+use Rattle.rows.specs.declared.{Row.Row}
 use Rattle.mask.specs.Mask.{legal}
-use Rattle.areas.specs.declared.Area.{Area}
-use Rattle.areas.specs.declared.Counts.{Counts}
+use Rattle.areas.specs.declared.{Area.Area, Counts.Counts}
 use Rattle.areas.specs.Areas.{keyArea}
 use Rattle.room.specs.Room.{fits}
-use Rattle.pack.specs.declared.Head.{Head}
-use Rattle.pack.specs.declared.Shape.{Shape}
-use Rattle.pack.specs.declared.Sought.{Sought}
-use Rattle.pack.specs.declared.Sought.the-variants as Sought
-use Rattle.held.specs.declared.Stands.{Stands}
-use Rattle.held.specs.declared.Orders.{Orders}
-use Rattle.turn.specs.declared.Ending.{Ending}
-use Rattle.table.specs.declared.Control.{Control}
-use Rattle.table.specs.declared.Control.the-variants as Control
-use Rattle.table.specs.declared.Write.{Write}
-use Rattle.table.specs.declared.Write.the-variants as Write
-use Rattle.table.specs.declared.Act.{Act}
-use Rattle.table.specs.declared.Act.the-variants as Act
+use Rattle.pack.specs.declared.{Head.Head, Shape.Shape, Sought.Sought}
+use Rattle.held.specs.declared.{Stands.Stands, Orders.Orders}
+use Rattle.turn.specs.declared.{Ending.Ending}
+use Rattle.table.specs.declared.{Control.Control, Write.Write, Act.Act}
 use Rattle.turn.specs.Turn.{Lies, Piece, Moves, Takes, given, Turn, turn, isCheck, checks}
-use Rattle.command.specs.declared.Task.{Task}
-use Rattle.command.specs.declared.Job.{Job}
+use Rattle.command.specs.declared.{Task.Task, Job.Job}
 use Rattle.command.specs.Command.{Sight, fails, endsAt, ends, endingOf, rests, senses, addressed, arrives, seeks, masked, masks, spaces, comparesWith, compares, gives, laysHome, laysNew, laysR0, laysRecord, piece, over, keySent, updates, does, lays, acts}
 use Rattle.frame.specs.Frame.{LaysUnder, givesBytes}
 

@@ -7,22 +7,16 @@ use mathlib.Core.List.{List, [], _∷_}
 use mathlib.Core.Logic.{inl, inr}
 use Rattle.cells.specs.Choice.{pick}
 use Rattle.cells.specs.Cells.{marks}
-use Rattle.areas.specs.declared.Part.{Part}
-use Rattle.areas.specs.declared.CountRead.{CountRead}
+use Rattle.areas.specs.declared.{Part.Part, CountRead.CountRead}
 use Rattle.areas.specs.Areas.{readable, rowOf, homeArea, countArea, readCount}
-use Rattle.pack.specs.declared.Head.{Head}
-use Rattle.pack.specs.declared.Shape.{Shape}
-use Rattle.held.specs.declared.Stands.{Stands}
-use Rattle.held.specs.declared.Orders.{Orders}
-use Rattle.command.specs.declared.Got.{Got}
+use Rattle.pack.specs.declared.{Head.Head, Shape.Shape}
+use Rattle.held.specs.declared.{Stands.Stands, Orders.Orders}
+use Rattle.command.specs.declared.{Got.Got, Plan.Plan}
 use Rattle.command.specs.declared.Got.the-variants.{Fails}
 use Rattle.command.specs.Command.{namedBy}
-use Rattle.table.specs.declared.Names.{Names}
-use Rattle.table.specs.declared.Names.the-variants as Names
-use Rattle.table.specs.declared.Rule.{Rule}
+use Rattle.table.specs.declared.{Names.Names, Rule.Rule}
 use Rattle.table.specs.Table.{ruleOf}
 use Rattle.turn.specs.Turn.{Tracks, Lies, checks}
-use Rattle.command.specs.declared.Plan.{Plan}
 use Rattle.command.specs.declared.Plan.the-variants.{Refuses, Works}
 use Rattle.command.specs.Command.{marksOf, plans, liesOn, areasOf, allRead, gets, hasRead, readyBy, planReads, turnBy, obeys, command}
 use Rattle.frame.specs.Frame.{Same, Breaks}

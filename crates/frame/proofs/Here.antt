@@ -7,33 +7,20 @@ use mathlib.Core.List.{List, [], _∷_}
 use lib.Dec.{ltb}
 use Rattle.cells.specs.Choice.{pick, both}
 use Rattle.cells.proofs.Tests.{pick-all}
-use Rattle.rows.specs.declared.Row.{Row}
-use Rattle.rows.specs.declared.Row.the-variants as Row
+use Rattle.rows.specs.declared.{Row.Row}
 use Rattle.mask.specs.Mask.{barsSeek, barsWrite}
-use Rattle.areas.specs.declared.Area.{Area}
+use Rattle.areas.specs.declared.{Area.Area}
 use Rattle.areas.specs.Areas.{areaCells, homeArea, countArea, readCount}
-use Rattle.hunt.specs.declared.Spot.{Spot}
-use Rattle.hunt.specs.declared.Spot.the-variants as Spot
-use Rattle.hunt.specs.declared.Next.{Next}
-use Rattle.hunt.specs.declared.Next.the-variants as Next
-use Rattle.pack.specs.declared.Head.{Head}
-use Rattle.pack.specs.declared.Shape.{Shape}
-use Rattle.held.specs.declared.Selection.{Selection}
+use Rattle.hunt.specs.declared.{Spot.Spot, Next.Next}
+use Rattle.pack.specs.declared.{Head.Head, Shape.Shape}
+use Rattle.held.specs.declared.{Selection.Selection, Stands.Stands, Orders.Orders}
 use Rattle.held.specs.declared.Selection.the-variants.{Nothing, On}
-use Rattle.held.specs.declared.Stands.{Stands}
-use Rattle.held.specs.declared.Orders.{Orders}
 use Rattle.command.specs.Command.{namedBy}
 use Rattle.command.specs.Command.{mostTally}
-use Rattle.table.specs.declared.Bar.{Bar}
-use Rattle.table.specs.declared.Bar.the-variants as Bar
-use Rattle.table.specs.declared.Aim.{Aim}
-use Rattle.table.specs.declared.Aim.the-variants as Aim
-use Rattle.table.specs.declared.Names.{Names}
-use Rattle.table.specs.declared.Names.the-variants as Names
-use Rattle.table.specs.declared.Rule.{Rule}
+use Rattle.table.specs.declared.{Bar.Bar, Aim.Aim, Names.Names, Rule.Rule}
 use Rattle.table.specs.Table.{ruleOf}
 use Rattle.turn.specs.Turn.{Tracks, alone, Lies}
-use Rattle.command.specs.declared.Plan.{Plan}
+use Rattle.command.specs.declared.{Plan.Plan}
 use Rattle.command.specs.declared.Plan.the-variants.{Refuses, Works}
 use Rattle.command.specs.Command.{Marks, marksOf, licensed, task, tallies, onRecord, onNext, onSelected, toNext, toServed, aimed, unlessBarred, plans, liesOn, areasOf, planReads, obeys, command}
 use Rattle.frame.specs.Frame.{AllSame, planHead, ReadsUnder, LaysUnder}

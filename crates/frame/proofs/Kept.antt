@@ -9,30 +9,18 @@ use Rattle.table.specs.Table.{isWrite}
 use Rattle.cells.specs.Choice.{pick, both}
 use Rattle.cells.specs.Cells.{bytesOf, marks}
 use Rattle.house_check.specs.Area.{goodCells}
-use Rattle.areas.specs.declared.Area.{Area}
-use Rattle.areas.specs.declared.Counts.{Counts}
-use Rattle.areas.specs.declared.CountRead.{CountRead}
-use Rattle.areas.specs.declared.CountRead.the-variants as CountRead
+use Rattle.areas.specs.declared.{Area.Area, Counts.Counts, CountRead.CountRead}
 use Rattle.areas.specs.Areas.{readable, areaBytes, rowOf, countArea, countsOf, countsAt, readCount}
-use Rattle.pack.specs.declared.Head.{Head}
-use Rattle.pack.specs.declared.Shape.{Shape}
-use Rattle.held.specs.declared.Stands.{Stands}
-use Rattle.held.specs.declared.Orders.{Orders}
-use Rattle.command.specs.declared.Got.{Got}
+use Rattle.pack.specs.declared.{Head.Head, Shape.Shape}
+use Rattle.held.specs.declared.{Stands.Stands, Orders.Orders}
+use Rattle.command.specs.declared.{Got.Got, Task.Task, Plan.Plan, Job.Job}
 use Rattle.command.specs.declared.Got.the-variants.{Sees, Fails}
 use Rattle.command.specs.Command.{namedBy, seeing}
 use Rattle.laying.specs.Laying.{recorded}
-use Rattle.table.specs.declared.Names.{Names}
-use Rattle.table.specs.declared.Names.the-variants as Names
-use Rattle.table.specs.declared.Act.{Act}
-use Rattle.table.specs.declared.Act.the-variants as Act
-use Rattle.table.specs.declared.Rule.{Rule}
+use Rattle.table.specs.declared.{Names.Names, Act.Act, Rule.Rule}
 use Rattle.table.specs.Table.{ruleOf}
 use Rattle.turn.specs.Turn.{Tracks, Lies, checks}
-use Rattle.command.specs.declared.Task.{Task}
-use Rattle.command.specs.declared.Plan.{Plan}
 use Rattle.command.specs.declared.Plan.the-variants.{Refuses, Works}
-use Rattle.command.specs.declared.Job.{Job}
 use Rattle.command.specs.Command.{marksOf, plans, liesOn, areasOf, allRead, countsIn, gets, saw, goesOver, allRecorded, areasRead, sight, acts, jobOf, hasRead, readyBy, planReads, turnBy, obeys, command}
 use Rattle.frame.specs.Frame.{Same, AllSame, planHead}
 use Rattle.frame.proofs.Turns.{planTurn, command-reads}

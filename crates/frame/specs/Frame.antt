@@ -4,16 +4,13 @@ use mathlib.Core.Path.{_≡_}
 use mathlib.Core.Bool.{Bool, true, false}
 use mathlib.Core.List.{List, [], _∷_}
 use mathlib.Core.Logic.{_⊎_}
-use Rattle.areas.specs.declared.Part.{Part}
+use Rattle.areas.specs.declared.{Part.Part}
 use Rattle.areas.specs.Areas.{areaCells, readable}
-use Rattle.pack.specs.declared.Head.{Head}
-use Rattle.held.specs.declared.Stands.{Stands}
-use Rattle.table.specs.declared.Control.the-variants as Control
-use Rattle.table.specs.declared.Act.{Act}
-use Rattle.table.specs.declared.Act.the-variants as Act
+use Rattle.pack.specs.declared.{Head.Head}
+use Rattle.held.specs.declared.{Stands.Stands}
+use Rattle.table.specs.declared.{Control.Control, Act.Act}
 use Rattle.turn.specs.Turn.{Tracks, Lies, Piece}
-use Rattle.command.specs.declared.Plan.{Plan}
-use Rattle.command.specs.declared.Plan.the-variants.{Refuses, Works}
+use Rattle.command.specs.declared.{Plan.Plan}
 
 -- ---- two cylinders
 
@@ -37,8 +34,8 @@ Breaks t t′ (a ∷ l) p =
 
 -- a plan that refuses works nowhere: the head stays
 unfoldable pub planHead : Stands → Plan → Head
-planHead s (Refuses row) = s .head
-planHead s (Works k) = k .head
+planHead s (Plan.Refuses row) = s .head
+planHead s (Plan.Works k) = k .head
 
 -- areas, and pieces, of this head's track
 abbrev pub ReadsUnder : Head → List Lies → Type 0

@@ -14,9 +14,8 @@ use Rattle.cells.specs.Choice.{pick, both}
 use Rattle.cells.specs.Bytes.{be16}
 use Rattle.cells.proofs.Numbers.{Bytes}
 use Rattle.hunt.specs.declared.Spot.the-variants.{Zero, Marker}
-use Rattle.held.specs.declared.Selection.{Selection}
+use Rattle.held.specs.declared.{Selection.Selection, Held.Held}
 use Rattle.held.specs.declared.Selection.the-variants.{Nothing, On}
-use Rattle.held.specs.declared.Held.{Held}
 use Rattle.held.specs.declared.Kept.the-variants.{Holds, Wrong}
 use Rattle.held.specs.Held.{fresh, freshStands, freshOrders, freshChannel}
 use Rattle.held.specs.Bytes.{heldBytes, layout, bit, selectionNo, selectionCell, encoded, InRange, isBit, allZero, isSet, cellFits, encodes, selectionIn, decoded, kept}

@@ -8,12 +8,8 @@ use Rattle.cells.specs.Choice.{pick, both}
 use Rattle.cells.specs.Bytes.{be16, be24}
 use Rattle.rows.specs.Rows.{sense}
 use Rattle.pack.specs.Shapes.{cylinder, head}
-use Rattle.hunt.specs.declared.Spot.the-variants.{Zero, Marker}
-use Rattle.held.specs.declared.Selection.{Selection}
-use Rattle.held.specs.declared.Selection.the-variants.{Nothing, On}
-use Rattle.held.specs.declared.Held.{Held}
-use Rattle.held.specs.declared.Kept.{Kept}
-use Rattle.held.specs.declared.Kept.the-variants.{Holds, Wrong}
+use Rattle.hunt.specs.declared.{Spot.Spot}
+use Rattle.held.specs.declared.{Selection.Selection, Held.Held, Kept.Kept}
 
 abbrev pub heldBytes : ℕ
 heldBytes = 64
@@ -28,14 +24,14 @@ bit false = 0
 
 -- a selection's number, and its marker's cell, zero if none
 abbrev pub selectionNo : Selection → ℕ
-selectionNo Nothing = 0
-selectionNo (On Zero) = 1
-selectionNo (On (Marker p)) = 2
+selectionNo Selection.Nothing = 0
+selectionNo (Selection.On Spot.Zero) = 1
+selectionNo (Selection.On (Spot.Marker p)) = 2
 
 abbrev pub selectionCell : Selection → ℕ
-selectionCell Nothing = 0
-selectionCell (On Zero) = 0
-selectionCell (On (Marker p)) = p
+selectionCell Selection.Nothing = 0
+selectionCell (Selection.On Spot.Zero) = 0
+selectionCell (Selection.On (Spot.Marker p)) = p
 
 abbrev pub two : ℕ → List ℕ
 two n = n / 256 ∷ n % 256 ∷ []
@@ -117,7 +113,7 @@ encodes v =
 
 unfoldable pub selectionIn : List ℕ → Selection
 selectionIn v =
-    pick (eqb (getD v 10 0) 0) Nothing (pick (eqb (getD v 10 0) 1) (On Zero) (On (Marker (be16 v 12))))
+    pick (eqb (getD v 10 0) 0) Selection.Nothing (pick (eqb (getD v 10 0) 1) (Selection.On Spot.Zero) (Selection.On (Spot.Marker (be16 v 12))))
 
 abbrev pub be32 : List ℕ → ℕ → ℕ
 be32 v at = getD v at 0 * 16777216 + be24 v (at + 1)
@@ -148,4 +144,4 @@ decoded v = record {
 }
 
 unfoldable pub kept : List ℕ → Kept
-kept v = pick (encodes v) (Holds (decoded v)) Wrong
+kept v = pick (encodes v) (Kept.Holds (decoded v)) Kept.Wrong

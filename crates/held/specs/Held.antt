@@ -2,11 +2,7 @@
 use mathlib.Core.Bool.{false}
 use Rattle.rows.specs.Rows.{sense}
 use Rattle.pack.specs.Shapes.{cylinder, head}
-use Rattle.held.specs.declared.Selection.the-variants.{Nothing}
-use Rattle.held.specs.declared.Stands.{Stands}
-use Rattle.held.specs.declared.Orders.{Orders}
-use Rattle.held.specs.declared.Channel.{Channel}
-use Rattle.held.specs.declared.Held.{Held}
+use Rattle.held.specs.declared.{Selection.Selection, Stands.Stands, Orders.Orders, Channel.Channel, Held.Held}
 
 -- a fresh box stands at cylinder 0, head 0, place 0, with mask 0, sense all zero and no chain going
 unfoldable pub freshStands : Stands
@@ -14,7 +10,7 @@ freshStands = record { cylinder = cylinder 0; head = head 0; place = 0; sense = 
 
 -- each chain starts with mask 0, none set yet, no selection, no command before and index tally 0
 unfoldable pub freshOrders : Orders
-freshOrders = record { mask = 0; «mask_set» = false; before = 0; whole = false; tally = 0; selection = Nothing }
+freshOrders = record { mask = 0; «mask_set» = false; before = 0; whole = false; tally = 0; selection = Selection.Nothing }
 
 unfoldable pub freshChannel : Channel
 freshChannel = record { going = false; key = 0; next = 0; «after_tic» = false }

@@ -5,13 +5,13 @@ use mathlib.Core.Path.{_≡_, refl, sym, ap, _∙_}
 use mathlib.Core.Bool.{Bool, true, false}
 use native.Mathlib.Omega.{arith}
 use Rattle.cells.specs.Choice.{pick}
-use Rattle.pack.specs.declared.Shape.{Shape}
+use Rattle.pack.specs.declared.{Shape.Shape}
 use Rattle.pack.specs.Shapes.{packFits}
 use Rattle.chain.specs.Step.{World, run}
 use Rattle.chain.specs.Legal.{storageFits}
 use Rattle.chain.proofs.Runs.{run-split, run-idle, run-legal, run-sizes}
 use Rattle.host.specs.declared.Answer.the-variants.{ChainEnded, AllowanceUsed, NoChain}
-use Rattle.host.specs.declared.Guarded.{Guarded}
+use Rattle.host.specs.declared.{Guarded.Guarded}
 use Rattle.host.specs.declared.Guarded.the-variants.{Passes, Answers}
 use Rattle.host.specs.Host.{Hears, hears, guardOf, guards, ran, goes}
 use Rattle.host.proofs.Laws.{passes-legal, legal-passes, passes-sizes}

@@ -9,12 +9,12 @@ use lib.Dec.{leb}
 use borrow.Author.Tests.{leb-true, eqb-true}
 use Rattle.cells.specs.Choice.{pick}
 use Rattle.cells.proofs.Tests.{first-of, second-of, both-of}
-use Rattle.pack.specs.declared.Shape.{Shape}
+use Rattle.pack.specs.declared.{Shape.Shape}
 use Rattle.pack.specs.Shapes.{mostCylinders, mostHeads, from1To, packFits}
 use Rattle.pack.specs.Tracks.{Whole}
 use Rattle.chain.specs.Step.{World}
 use Rattle.chain.specs.Legal.{storageFits, standsFit, channelFits, heldFits, Legal}
-use Rattle.host.specs.declared.Answer.{Answer}
+use Rattle.host.specs.declared.{Answer.Answer}
 use Rattle.host.specs.declared.Answer.the-variants.{BadStorage, BadPack, BadHeld}
 use Rattle.host.specs.declared.Guarded.the-variants.{Passes, Answers}
 use Rattle.host.specs.Host.{guardOf}

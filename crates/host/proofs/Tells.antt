@@ -13,31 +13,25 @@ use Rattle.cells.specs.Bytes.{overlay}
 use Rattle.cells.specs.Cells.{markAt, marks}
 use Rattle.cells.proofs.Marks.{getD-marks}
 use Rattle.mask.specs.Mask.{legal}
-use Rattle.words.specs.declared.Word.{Word}
-use Rattle.words.specs.declared.Begun.{Begun}
+use Rattle.words.specs.declared.{Word.Word, Begun.Begun, Cause.Cause, Tested.Tested}
 use Rattle.words.specs.declared.Begun.the-variants.{Begins, Refused}
-use Rattle.words.specs.declared.Cause.{Cause}
-use Rattle.words.specs.declared.Tested.{Tested}
 use Rattle.words.specs.declared.Tested.the-variants.{Obey, Jump, Bad}
 use Rattle.words.specs.Words.{along, begunBy, tested}
-use Rattle.hunt.specs.declared.Spot.{Spot}
+use Rattle.hunt.specs.declared.{Spot.Spot}
 use Rattle.hunt.specs.declared.Spot.the-variants.{Zero, Marker}
-use Rattle.pack.specs.declared.Shape.{Shape}
+use Rattle.pack.specs.declared.{Shape.Shape}
 use Rattle.pack.specs.Shapes.{packFits}
 use Rattle.pack.specs.Tracks.{startOf, trackAt}
 use Rattle.pack.proofs.Laws.{lent-is}
-use Rattle.table.specs.declared.Rule.{Rule}
+use Rattle.table.specs.declared.{Rule.Rule}
 use Rattle.table.specs.Table.{ruleOf}
-use Rattle.held.specs.declared.Selection.{Selection}
+use Rattle.held.specs.declared.{Selection.Selection, Orders.Orders, Held.Held}
 use Rattle.held.specs.declared.Selection.the-variants.{Nothing, On}
-use Rattle.held.specs.declared.Orders.{Orders}
-use Rattle.held.specs.declared.Held.{Held}
 use Rattle.chain.specs.Step.{World, world, under, selected, run}
 use Rattle.chain.specs.Legal.{storageFits, standsFit, channelFits, selectionFits, ordersFit, heldFits}
 use Rattle.hunt.specs.Hunt.{spotFits}
-use Rattle.host.specs.declared.Answer.{Answer}
+use Rattle.host.specs.declared.{Answer.Answer, Guarded.Guarded}
 use Rattle.host.specs.declared.Answer.the-variants.{ChainEnded, AllowanceUsed, BadStorage, BadPack, BadHeld, NoChain, ChainGoing}
-use Rattle.host.specs.declared.Guarded.{Guarded}
 use Rattle.host.specs.declared.Guarded.the-variants.{Passes, Answers}
 use Rattle.host.specs.Host.{Hears, hears, guardOf, wrongHeld, guards, refusesStart, beginning, firstWord, begins, starts, ran, goes}
 

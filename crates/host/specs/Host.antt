@@ -5,32 +5,26 @@ use mathlib.Core.List.{[], _∷_}
 use lib.ListN.{length}
 use Rattle.cells.specs.Choice.{pick}
 use Rattle.cells.specs.Bytes.{overlay}
-use Rattle.words.specs.declared.Begun.{Begun}
-use Rattle.words.specs.declared.Begun.the-variants.{Begins, Refused}
-use Rattle.words.specs.declared.Tested.{Tested}
-use Rattle.words.specs.declared.Tested.the-variants.{Obey, Jump, Bad}
+use Rattle.words.specs.declared.{Begun.Begun, Tested.Tested}
 use Rattle.words.specs.Words.{along, begunBy, tested}
-use Rattle.pack.specs.declared.Shape.{Shape}
+use Rattle.pack.specs.declared.{Shape.Shape}
 use Rattle.pack.specs.Shapes.{packFits}
-use Rattle.held.specs.declared.Held.{Held}
+use Rattle.held.specs.declared.{Held.Held}
 use Rattle.held.specs.Held.{fresh}
 use Rattle.chain.specs.Step.{World, world, run}
 use Rattle.chain.specs.Legal.{storageFits, heldFits}
-use Rattle.host.specs.declared.Answer.{Answer}
-use Rattle.host.specs.declared.Answer.the-variants.{ChainEnded, AllowanceUsed, BadStorage, BadPack, BadHeld, BadStart, NoChain, ChainGoing}
-use Rattle.host.specs.declared.Guarded.{Guarded}
-use Rattle.host.specs.declared.Guarded.the-variants.{Passes, Answers}
+use Rattle.host.specs.declared.{Answer.Answer, Guarded.Guarded}
 
 -- document 01's number of each answer
 unfoldable pub answerNo : Answer → ℕ
-answerNo ChainEnded = 0
-answerNo AllowanceUsed = 1
-answerNo BadStorage = 2
-answerNo BadPack = 3
-answerNo BadHeld = 4
-answerNo BadStart = 5
-answerNo NoChain = 6
-answerNo ChainGoing = 7
+answerNo Answer.ChainEnded = 0
+answerNo Answer.AllowanceUsed = 1
+answerNo Answer.BadStorage = 2
+answerNo Answer.BadPack = 3
+answerNo Answer.BadHeld = 4
+answerNo Answer.BadStart = 5
+answerNo Answer.NoChain = 6
+answerNo Answer.ChainGoing = 7
 
 -- an answer, and all that is left
 pub record Hears : Type 0 where
@@ -45,24 +39,24 @@ unfoldable pub guardOf : Shape → World → Guarded
 guardOf g w =
     pick (storageFits (length (w .storage)))
     (pick (packFits g (length (w .cells)))
-    (pick (heldFits g w) Passes (Answers BadHeld))
-    (Answers BadPack))
-    (Answers BadStorage)
+    (pick (heldFits g w) Guarded.Passes (Guarded.Answers Answer.BadHeld))
+    (Guarded.Answers Answer.BadPack))
+    (Guarded.Answers Answer.BadStorage)
 
 -- bytes that encode no held state: refusal 4, in its place after 2 and 3
 unfoldable pub wrongHeld : Shape → ℕ → ℕ → Answer
-wrongHeld g s c = pick (storageFits s) (pick (packFits g c) BadHeld BadPack) BadStorage
+wrongHeld g s c = pick (storageFits s) (pick (packFits g c) Answer.BadHeld Answer.BadPack) Answer.BadStorage
 
 -- a refusal leaves all unchanged
 unfoldable pub guards : Guarded → World → Hears → Hears
-guards Passes w x = x
-guards (Answers a) w x = hears a w
+guards Guarded.Passes w x = x
+guards (Guarded.Answers a) w x = hears a w
 
 -- ---- a start
 
 -- 5: bytes 68 and 69 become 00 20, no chain, all else unchanged
 unfoldable pub refusesStart : World → Hears
-refusesStart w = hears BadStart (world (w .held) (overlay (w .storage) 68 (0x00 ∷ 0x20 ∷ [])) (w .cells))
+refusesStart w = hears Answer.BadStart (world (w .held) (overlay (w .storage) 68 (0x00 ∷ 0x20 ∷ [])) (w .cells))
 
 -- a good start resets all but cylinder, head, place and sense
 unfoldable pub beginning : Held → ℕ → ℕ → Held
@@ -74,27 +68,27 @@ beginning h key next = record {
 
 -- the first word is tested, and nothing runs
 unfoldable pub firstWord : World → ℕ → ℕ → Tested → Hears
-firstWord w key next (Obey d) = hears AllowanceUsed (world (beginning (w .held) key next) (w .storage) (w .cells))
-firstWord w key next (Jump a) = refusesStart w
-firstWord w key next (Bad cause) = refusesStart w
+firstWord w key next (Tested.Obey d) = hears Answer.AllowanceUsed (world (beginning (w .held) key next) (w .storage) (w .cells))
+firstWord w key next (Tested.Jump a) = refusesStart w
+firstWord w key next (Tested.Bad cause) = refusesStart w
 
 unfoldable pub begins : World → Begun → Hears
-begins w (Begins key first) = firstWord w key (along first 0) (tested (w .storage) (along first 0) false)
-begins w Refused = refusesStart w
+begins w (Begun.Begins key first) = firstWord w key (along first 0) (tested (w .storage) (along first 0) false)
+begins w Begun.Refused = refusesStart w
 
 -- 7: with one going
 unfoldable pub starts : Shape → World → Hears
 starts g w =
     guards (guardOf g w) w
-    (pick (w .held .channel .going) (hears ChainGoing w) (begins w (begunBy (w .storage))))
+    (pick (w .held .channel .going) (hears Answer.ChainGoing w) (begins w (begunBy (w .storage))))
 
 -- ---- going on
 
 -- 0: chain ended; 1: allowance used, not ended
 unfoldable pub ran : World → Hears
-ran w = hears (pick (w .held .channel .going) AllowanceUsed ChainEnded) w
+ran w = hears (pick (w .held .channel .going) Answer.AllowanceUsed Answer.ChainEnded) w
 
 -- 6: with no chain
 unfoldable pub goes : Shape → ℕ → World → Hears
 goes g n w =
-    guards (guardOf g w) w (pick (w .held .channel .going) (ran (run g n w)) (hears NoChain w))
+    guards (guardOf g w) w (pick (w .held .channel .going) (ran (run g n w)) (hears Answer.NoChain w))

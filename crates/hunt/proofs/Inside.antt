@@ -12,11 +12,9 @@ use lib.Dec.{ltb}
 use Rattle.cells.specs.Cells.{trackCells, marks}
 use Rattle.cells.proofs.Marks.{length-marks}
 use Rattle.cells.proofs.Tests.{pick-all}
-use Rattle.hunt.specs.declared.Found.{Found}
+use Rattle.hunt.specs.declared.{Found.Found, Spot.Spot, Next.Next}
 use Rattle.hunt.specs.declared.Found.the-variants.{At, Nothing}
-use Rattle.hunt.specs.declared.Spot.{Spot}
 use Rattle.hunt.specs.declared.Spot.the-variants.{Zero, Marker}
-use Rattle.hunt.specs.declared.Next.{Next}
 use Rattle.hunt.specs.declared.Next.the-variants.{Stands, NoMarker}
 use Rattle.hunt.specs.Hunt.{Whole, scan, hunt, spotFits, pastIndex, aheadOr, nextRecord, nextId, countFirst, spacedTo, spaceRecord}
 

@@ -15,10 +15,9 @@ use Rattle.cells.specs.Choice.{pick, both}
 use Rattle.cells.specs.Cells.{markAt, marks}
 use Rattle.cells.proofs.Marks.{length-marks, getD-marks, mark-here, mark-none, mark-low}
 use Rattle.cells.proofs.Tests.{first-of, second-of}
-use Rattle.hunt.specs.declared.Found.{Found}
+use Rattle.hunt.specs.declared.{Found.Found, Next.Next}
 use Rattle.hunt.specs.declared.Found.the-variants.{At, Nothing}
 use Rattle.hunt.specs.declared.Spot.the-variants.{Zero, Marker}
-use Rattle.hunt.specs.declared.Next.{Next}
 use Rattle.hunt.specs.declared.Next.the-variants.{Stands, NoMarker}
 use Rattle.hunt.specs.Hunt.{bare, scan, hunt, pastIndex, aheadOr, nextRecord, nextId, spacedTo, spaceRecord}
 

@@ -8,12 +8,7 @@ use lib.ListN.{length, getD, drop}
 use lib.Dec.{ltb, eqb}
 use Rattle.cells.specs.Choice.{pick, both}
 use Rattle.cells.specs.Cells.{trackCells, firstMarker, marker}
-use Rattle.hunt.specs.declared.Found.{Found}
-use Rattle.hunt.specs.declared.Found.the-variants.{At, Nothing}
-use Rattle.hunt.specs.declared.Spot.{Spot}
-use Rattle.hunt.specs.declared.Spot.the-variants.{Zero, Marker}
-use Rattle.hunt.specs.declared.Next.{Next}
-use Rattle.hunt.specs.declared.Next.the-variants.{Stands, NoMarker}
+use Rattle.hunt.specs.declared.{Found.Found, Spot.Spot, Next.Next}
 
 -- a whole track
 pub record Whole (t : List ℕ) : Type 0 where
@@ -26,8 +21,8 @@ bare (x ∷ t) = both (not (eqb x marker)) (bare t)
 
 -- the first marker of m, whose first cell is numbered p
 unfoldable pub scan : List Bool → ℕ → Found
-scan [] p = Nothing
-scan (b ∷ m) p = pick b (At p) (scan m (suc p))
+scan [] p = Found.Nothing
+scan (b ∷ m) p = pick b (Found.At p) (scan m (suc p))
 
 -- the first marker at or after a place
 unfoldable pub hunt : List Bool → ℕ → Found
@@ -35,23 +30,23 @@ hunt m p = scan (drop p m) p
 
 -- a record is known by the first cell of its count area; that is also the place after work on it
 unfoldable pub countFirst : Spot → ℕ
-countFirst Zero = firstMarker
-countFirst (Marker p) = p + 1
+countFirst Spot.Zero = firstMarker
+countFirst (Spot.Marker p) = p + 1
 
 -- R0, or a cell that holds a marker
 unfoldable pub spotFits : List Bool → Spot → Bool
-spotFits m Zero = true
-spotFits m (Marker p) = getD m p false
+spotFits m Spot.Zero = true
+spotFits m (Spot.Marker p) = getD m p false
 
 -- what the head comes to past the index, looking from cell 7
 unfoldable pub pastIndex : Found → Next
-pastIndex (At p) = Stands (Marker p) 1
-pastIndex Nothing = NoMarker
+pastIndex (Found.At p) = Next.Stands (Spot.Marker p) 1
+pastIndex Found.Nothing = Next.NoMarker
 
 -- what it comes to before the index, or else after
 unfoldable pub aheadOr : Found → Next → Next
-aheadOr (At p) after = Stands (Marker p) 0
-aheadOr Nothing after = after
+aheadOr (Found.At p) after = Next.Stands (Spot.Marker p) 0
+aheadOr Found.Nothing after = after
 
 -- the next record is at the first marker at or after the place; with none, the head passes the index and looks from cell 7
 unfoldable pub nextRecord : List Bool → ℕ → Next
@@ -59,12 +54,12 @@ nextRecord m p = aheadOr (hunt m p) (pastIndex (hunt m firstMarker))
 
 -- Search ID takes R0 at a place below 7, or on passing the index
 unfoldable pub nextId : List Bool → ℕ → Next
-nextId m p = pick (ltb p firstMarker) (Stands Zero 0) (aheadOr (hunt m p) (Stands Zero 1))
+nextId m p = pick (ltb p firstMarker) (Next.Stands Spot.Zero 0) (aheadOr (hunt m p) (Next.Stands Spot.Zero 1))
 
 -- the place after the next marker was passed without reading; with no marker at all, past the index, 7
 unfoldable pub spacedTo : Next → ℕ
-spacedTo (Stands s n) = countFirst s
-spacedTo NoMarker = firstMarker
+spacedTo (Next.Stands s n) = countFirst s
+spacedTo Next.NoMarker = firstMarker
 
 -- Space Record: after home address work 7, else past the next marker
 unfoldable pub spaceRecord : List Bool → ℕ → Bool → ℕ

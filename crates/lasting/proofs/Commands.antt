@@ -13,43 +13,32 @@ use Rattle.cells.specs.Bytes.{padded}
 use Rattle.cells.specs.Cells.{trackCells, marker, marks}
 use Rattle.cells.proofs.Numbers.{Bytes}
 use Rattle.cells.proofs.Tests.{first-picked, second-picked}
-use Rattle.rows.specs.declared.Row.{Row}
-use Rattle.rows.specs.declared.Row.the-variants as Row
+use Rattle.rows.specs.declared.{Row.Row}
 use Rattle.mask.specs.declared.Writing.the-variants.{HomeOrZero}
 use Rattle.mask.specs.Mask.{barsWrite}
 use Rattle.house_check.specs.Area as Area
-use Rattle.areas.specs.declared.Counts.{Counts}
+use Rattle.areas.specs.declared.{Counts.Counts}
 use Rattle.areas.specs.Areas.{homeBytes, homeArea, homeFlag, zeroFirst, countsAt, keyArea, dataArea, recordCells, endBy, needed, readable, rowOf}
 use Rattle.areas.specs.Flags.{flagOfZero, flagAfter}
-use Rattle.hunt.specs.declared.Spot.{Spot}
-use Rattle.hunt.specs.declared.Spot.the-variants as Spot
+use Rattle.hunt.specs.declared.{Spot.Spot}
 use Rattle.hunt.specs.Hunt.{countFirst}
 use Rattle.room.specs.Room.{fits}
 use Rattle.room.proofs.Laws.{fits-ends}
-use Rattle.pack.specs.declared.Head.{Head}
-use Rattle.pack.specs.declared.Shape.{Shape}
-use Rattle.held.specs.declared.Selection.{Selection}
+use Rattle.pack.specs.declared.{Head.Head, Shape.Shape}
+use Rattle.held.specs.declared.{Selection.Selection, Stands.Stands, Orders.Orders}
 use Rattle.held.specs.declared.Selection.the-variants.{Nothing, On}
-use Rattle.held.specs.declared.Stands.{Stands}
-use Rattle.held.specs.declared.Orders.{Orders}
 use Rattle.turn.specs.declared.Ending.the-variants.{Normal, Exception, Check}
 use Rattle.turn.specs.Turn.{standing, after, ordered}
-use Rattle.command.specs.declared.Got.{Got}
+use Rattle.command.specs.declared.{Got.Got, Task.Task, Plan.Plan}
 use Rattle.command.specs.declared.Got.the-variants.{Sees, Fails}
 use Rattle.command.specs.Command.{seeing, noCounts, named}
 use Rattle.command.specs.Command.{homePlace, SelectedOn}
 use Rattle.command.specs.Command.{homeDone}
 use Rattle.laying.specs.Laying.{newCounts, newRecord, formatted}
 use Rattle.laying.proofs.Laws.{length-area, length-new}
-use Rattle.table.specs.declared.Licence.the-variants as Licence
-use Rattle.table.specs.declared.Write.{Write}
-use Rattle.table.specs.declared.Write.the-variants as Write
-use Rattle.table.specs.declared.Act.the-variants as Act
-use Rattle.table.specs.declared.Rule.{Rule}
+use Rattle.table.specs.declared.{Licence.Licence, Write.Write, Act.Act, Rule.Rule}
 use Rattle.table.specs.Table.{ruleOf, find, controls, searches, reads, writes}
 use Rattle.turn.specs.Turn.{Tracks, Lies, Piece, Moves, Takes, Turn, laid, checks}
-use Rattle.command.specs.declared.Task.{Task}
-use Rattle.command.specs.declared.Plan.{Plan}
 use Rattle.command.specs.declared.Plan.the-variants.{Refuses, Works}
 use Rattle.command.specs.Command.{licensed, task, tallies, onRecord, aimed, unlessBarred, plans, liesOn, areasOf, allRead, countsIn, gets, saw, goesOver, writesOver, allRecorded, Sight, areasRead, sight, fails, endsAt, ends, endingOf, piece, toEnd, laysHome, recordTakes, laysNew, laysR0, laysRecord, over, keySent, updates, lays, acts, jobOf, hasRead, readyBy, planReads, turnBy, obeys, command, standsAfter, ordersAfter}
 use Rattle.command.proofs.Pieces.{format-is}

@@ -15,12 +15,11 @@ use Rattle.cells.specs.Cells.{marker}
 use Rattle.cells.proofs.Laws.{length-padded}
 use Rattle.cells.proofs.Numbers.{Bytes}
 use Rattle.house_check.specs.Area.{laid}
-use Rattle.areas.specs.declared.Area.{Area}
-use Rattle.areas.specs.declared.Counts.{Counts}
+use Rattle.areas.specs.declared.{Area.Area, Counts.Counts}
 use Rattle.areas.specs.Areas.{homeArea, homeFlag, countArea, countsOf, countsAt, keyArea, dataArea, recordCells, endBy, needed, areaCells, readable}
 use Rattle.areas.specs.Flags.{flagOfZero, flagAfter}
 use Rattle.areas.proofs.Laws.{some-key}
-use Rattle.hunt.specs.declared.Spot.{Spot}
+use Rattle.hunt.specs.declared.{Spot.Spot}
 use Rattle.hunt.specs.declared.Spot.the-variants.{Zero, Marker}
 use Rattle.hunt.specs.Hunt.{countFirst}
 use Rattle.recording.proofs.Laws.{padded-bytes}

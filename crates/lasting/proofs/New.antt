@@ -13,7 +13,7 @@ use Rattle.cells.proofs.Numbers.{Bytes, part-bytes}
 use Rattle.cells.proofs.Tests.{second-picked}
 use Rattle.house_check.specs.Area.{laid}
 use Rattle.house_check.proofs.Cells.{length-laid}
-use Rattle.areas.specs.declared.Counts.{Counts}
+use Rattle.areas.specs.declared.{Counts.Counts}
 use Rattle.areas.specs.Areas.{countArea, countsOf, countsAt, keyArea, dataArea, dataBytes, areaBytes}
 use Rattle.recording.proofs.Laws.{padded-bytes}
 use Rattle.laying.specs.Laying.{newCounts, newKey, newData, newRecord}

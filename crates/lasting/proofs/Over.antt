@@ -15,11 +15,10 @@ use Rattle.cells.proofs.Marks.{getD-marks, mark-here}
 use Rattle.cells.proofs.Numbers.{Bytes}
 use Rattle.house_check.specs.Area.{laid}
 use Rattle.house_check.proofs.Cells.{length-laid}
-use Rattle.areas.specs.declared.Area.{Area}
-use Rattle.areas.specs.declared.Counts.{Counts}
+use Rattle.areas.specs.declared.{Area.Area, Counts.Counts}
 use Rattle.areas.specs.Areas.{homeArea, countArea, countsAt, keyArea, dataArea, recordCells, endBy, areaCells, readable}
 use Rattle.areas.specs.Flags.{flagOfZero}
-use Rattle.hunt.specs.declared.Spot.{Spot}
+use Rattle.hunt.specs.declared.{Spot.Spot}
 use Rattle.hunt.specs.declared.Spot.the-variants.{Zero, Marker}
 use Rattle.hunt.specs.Hunt.{countFirst, spotFits}
 use Rattle.sound.specs.Sound.{Record, Records, none, more, Sound}

@@ -14,8 +14,7 @@ use Rattle.cells.proofs.Laws.{getD-part, length-part, part-overlay, overlay-sam
 use Rattle.cells.proofs.Numbers.{Bytes}
 use Rattle.house_check.specs.Area.{goodCells, laid}
 use Rattle.house_check.proofs.Cells.{length-laid}
-use Rattle.areas.specs.declared.Area.{Area}
-use Rattle.areas.specs.declared.Counts.{Counts}
+use Rattle.areas.specs.declared.{Area.Area, Counts.Counts}
 use Rattle.areas.specs.Areas.{area, areaCells, readable, areaBytes, countArea, countsOf, countsAt, keyArea, dataArea}
 use Rattle.areas.proofs.Laws.{length-areaCells}
 use Rattle.recording.proofs.Written.{written-readable, written-reads-back}

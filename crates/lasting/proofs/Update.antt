@@ -13,11 +13,10 @@ use Rattle.cells.specs.Bytes.{part, padded, overlay}
 use Rattle.cells.proofs.Laws.{length-padded}
 use Rattle.cells.proofs.Numbers.{Bytes}
 use Rattle.house_check.specs.Area as Area
-use Rattle.areas.specs.declared.Area.{Area}
-use Rattle.areas.specs.declared.Counts.{Counts}
+use Rattle.areas.specs.declared.{Area.Area, Counts.Counts}
 use Rattle.areas.specs.Areas.{countsAt, keyArea, dataArea, areaCells}
 use Rattle.areas.proofs.Laws.{some-key}
-use Rattle.hunt.specs.declared.Spot.{Spot}
+use Rattle.hunt.specs.declared.{Spot.Spot}
 use Rattle.hunt.specs.Hunt.{countFirst}
 use Rattle.command.specs.Command.{named}
 use Rattle.command.proofs.Seen.{lies}

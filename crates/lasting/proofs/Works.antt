@@ -8,39 +8,22 @@ use native.Mathlib.Omega.{arith}
 use lib.ListN.{getD}
 use Rattle.cells.specs.Choice.{pick, both}
 use Rattle.cells.proofs.Tests.{pick-all, first-of, second-of}
-use Rattle.rows.specs.declared.Row.{Row}
-use Rattle.rows.specs.declared.Row.the-variants as Row
+use Rattle.rows.specs.declared.{Row.Row}
 use Rattle.mask.specs.Mask.{barsSeek, barsWrite}
-use Rattle.areas.specs.declared.Counts.{Counts}
+use Rattle.areas.specs.declared.{Counts.Counts}
 use Rattle.areas.specs.Areas.{homeArea, homeFlag, countsAt, readable}
-use Rattle.hunt.specs.declared.Spot.{Spot}
-use Rattle.hunt.specs.declared.Spot.the-variants as Spot
+use Rattle.hunt.specs.declared.{Spot.Spot}
 use Rattle.hunt.specs.Hunt.{countFirst}
-use Rattle.pack.specs.declared.Head.{Head}
-use Rattle.pack.specs.declared.Shape.{Shape}
-use Rattle.held.specs.declared.Selection.{Selection}
+use Rattle.pack.specs.declared.{Head.Head, Shape.Shape}
+use Rattle.held.specs.declared.{Selection.Selection, Stands.Stands, Orders.Orders}
 use Rattle.held.specs.declared.Selection.the-variants.{Nothing, On}
-use Rattle.held.specs.declared.Stands.{Stands}
-use Rattle.held.specs.declared.Orders.{Orders}
-use Rattle.command.specs.declared.Got.{Got}
+use Rattle.command.specs.declared.{Got.Got, Task.Task, Plan.Plan}
 use Rattle.command.specs.declared.Got.the-variants.{Sees, Fails}
 use Rattle.command.specs.Command.{seeing}
-use Rattle.table.specs.declared.Bar.{Bar}
-use Rattle.table.specs.declared.Bar.the-variants as Bar
-use Rattle.table.specs.declared.Aim.{Aim}
-use Rattle.table.specs.declared.Aim.the-variants as Aim
-use Rattle.table.specs.declared.Names.{Names}
-use Rattle.table.specs.declared.Names.the-variants as Names
-use Rattle.table.specs.declared.Write.{Write}
-use Rattle.table.specs.declared.Write.the-variants as Write
-use Rattle.table.specs.declared.Act.{Act}
-use Rattle.table.specs.declared.Act.the-variants as Act
-use Rattle.table.specs.declared.Rule.{Rule}
+use Rattle.table.specs.declared.{Bar.Bar, Aim.Aim, Names.Names, Write.Write, Act.Act, Rule.Rule}
 use Rattle.table.specs.Table.{ruleOf, controls, searches, reads, writes}
 use Rattle.table.proofs.Laws.{every, each, of-every}
 use Rattle.turn.specs.Turn.{Tracks, Lies, Turn, checks}
-use Rattle.command.specs.declared.Task.{Task}
-use Rattle.command.specs.declared.Plan.{Plan}
 use Rattle.command.specs.declared.Plan.the-variants.{Refuses, Works}
 use Rattle.command.specs.Command.{Marks, marksOf, licensed, tallies, onRecord, onSelected, aimed, unlessBarred, plans, liesOn, areasOf, allRead, countsIn, gets, saw, sight, lays, acts, jobOf, hasRead, readyBy, turnBy, obeys, command}
 

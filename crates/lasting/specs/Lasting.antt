@@ -9,20 +9,17 @@ use mathlib.Core.List.{List, [], _∷_}
 use lib.ListN.{length, getD}
 use Rattle.cells.specs.Bytes.{part, padded}
 use Rattle.cells.specs.Cells.{trackCells, gap}
-use Rattle.rows.specs.declared.Row.{Row}
-use Rattle.areas.specs.declared.Area.{Area}
+use Rattle.rows.specs.declared.{Row.Row}
+use Rattle.areas.specs.declared.{Area.Area}
 use Rattle.areas.specs.Areas.{homeBytes, homeArea, homeFlag, zeroFirst, countArea, countsAt, keyArea, dataArea, dataBytes, readable, areaBytes}
 use Rattle.areas.specs.Flags.{flagOfZero, flagAfter}
-use Rattle.hunt.specs.declared.Spot.{Spot}
+use Rattle.hunt.specs.declared.{Spot.Spot}
 use Rattle.hunt.specs.Hunt.{countFirst}
 use Rattle.recording.specs.Recording.{countSent}
-use Rattle.held.specs.declared.Selection.{Selection}
-use Rattle.held.specs.declared.Selection.the-variants.{On}
-use Rattle.held.specs.declared.Orders.{Orders}
-use Rattle.turn.specs.declared.Ending.the-variants.{Check}
+use Rattle.held.specs.declared.{Selection.Selection, Orders.Orders}
+use Rattle.turn.specs.declared.{Ending.Ending}
 use Rattle.laying.specs.Laying.{newCounts}
-use Rattle.table.specs.declared.Write.{Write}
-use Rattle.table.specs.declared.Write.the-variants as Write
+use Rattle.table.specs.declared.{Write.Write}
 use Rattle.turn.specs.Turn.{Turn, laid}
 use Rattle.command.specs.Command.{keySent}
 use Rattle.sound.specs.Sound.{flagAt, endAt, Sound}
@@ -78,13 +75,13 @@ ReadsBack (Write.Update key) c v t t′ = UpdateBack key v t t′ c
 unfoldable pub Took : Write → Selection → Spot → Type 0
 Took Write.HomeAddress x spot = Unit {0}
 Took Write.R0 x spot = Unit {0}
-Took Write.CountKeyData x spot = x ≡ On spot
-Took (Write.Update key) x spot = x ≡ On spot
+Took Write.CountKeyData x spot = x ≡ Selection.On spot
+Took (Write.Update key) x spot = x ≡ Selection.On spot
 
 -- ---- the command's turn, with the bytes v sent, on the track t under the head
 
 -- it ended in Unit Check and no cell changed; or it did not, and what it left lasts and can be read back
 pub data Leaves (w : Write) (o : Orders) (v t : List ℕ) (x : Turn) : Type 0 where
-  unchanged : (row : Row) → x .ending ≡ Check row → x .lays ≡ [] → Leaves w o v t x
-  written : (spot : Spot) → Took w (o .selection) spot → ((row : Row) → x .ending ≡ Check row → ⊥)
+  unchanged : (row : Row) → x .ending ≡ Ending.Check row → x .lays ≡ [] → Leaves w o v t x
+  written : (spot : Spot) → Took w (o .selection) spot → ((row : Row) → x .ending ≡ Ending.Check row → ⊥)
       → Lasts w t (laid (x .lays) t) → ReadsBack w (countFirst spot) v t (laid (x .lays) t) → Leaves w o v t x

@@ -16,8 +16,7 @@ use Rattle.cells.specs.Cells.{marker, allBytes}
 use Rattle.cells.proofs.Laws.{take-min, length-padded, overlay-none, overlay-append}
 use Rattle.house_check.specs.Area.{laid}
 use Rattle.house_check.proofs.Cells.{length-laid}
-use Rattle.areas.specs.declared.Area.{Area}
-use Rattle.areas.specs.declared.Counts.{Counts}
+use Rattle.areas.specs.declared.{Area.Area, Counts.Counts}
 use Rattle.areas.specs.Areas.{areaCells, countsOf, keyCells, dataBytes, keyArea, dataArea, recordCells}
 use Rattle.areas.proofs.Laws.{length-areaCells, some-key}
 use Rattle.recording.specs.Recording.{areaWritten, countWritten}

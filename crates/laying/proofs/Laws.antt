@@ -16,8 +16,7 @@ use Rattle.cells.proofs.Laws.{length-overlay, length-padded}
 use Rattle.cells.proofs.Tests.{first-of}
 use Rattle.house_check.specs.Area.{laid}
 use Rattle.house_check.proofs.Cells.{length-laid}
-use Rattle.areas.specs.declared.Area.{Area}
-use Rattle.areas.specs.declared.Counts.{Counts}
+use Rattle.areas.specs.declared.{Area.Area, Counts.Counts}
 use Rattle.areas.specs.Areas.{areaCells, dataBytes, keyCells, recordCells}
 use Rattle.areas.proofs.Laws.{length-areaCells}
 use Rattle.recording.specs.Recording.{wiped}

@@ -10,8 +10,7 @@ use Rattle.cells.specs.Choice.{pick, both}
 use Rattle.cells.specs.Bytes.{part, overlay, padded}
 use Rattle.cells.specs.Cells.{allBytes}
 use Rattle.house_check.specs.Area.{checkBytes, laid}
-use Rattle.areas.specs.declared.Area.{Area}
-use Rattle.areas.specs.declared.Counts.{Counts}
+use Rattle.areas.specs.declared.{Area.Area, Counts.Counts}
 use Rattle.areas.specs.Areas.{areaCells, countsOf, dataBytes, recordCells}
 use Rattle.recording.specs.Recording.{countSent, wiped}
 

@@ -9,17 +9,13 @@ use native.Mathlib.Omega.{arith}
 use borrow.Author.Tests.{eq-eqb, ne-eqb, eqb-true}
 use Rattle.cells.specs.Cells.{trackCells, marks}
 use Rattle.cells.proofs.Tests.{first-of, second-of, first-picked, second-picked}
-use Rattle.areas.specs.declared.Part.{Part}
-use Rattle.areas.specs.declared.Area.{Area}
-use Rattle.areas.specs.declared.Counts.{Counts}
-use Rattle.areas.specs.declared.CountRead.{CountRead}
+use Rattle.areas.specs.declared.{Part.Part, Area.Area, Counts.Counts, CountRead.CountRead}
 use Rattle.areas.specs.declared.CountRead.the-variants.{Reads, Fails}
 use Rattle.areas.specs.Areas.{readable, readCount, keyArea, dataArea}
-use Rattle.hunt.specs.declared.Found.{Found}
+use Rattle.hunt.specs.declared.{Found.Found}
 use Rattle.hunt.specs.Hunt.{hunt}
-use Rattle.look.specs.declared.Marked.{Marked}
+use Rattle.look.specs.declared.{Marked.Marked, Look.Look}
 use Rattle.look.specs.declared.Marked.the-variants.{NoTrack}
-use Rattle.look.specs.declared.Look.{Look}
 use Rattle.look.specs.declared.Look.the-variants.{WrongCall, Readable, Unreadable, Absent, NotKnown}
 use Rattle.look.specs.Look.{markedBy, marked, markedNo, markerCall, looksAt, keyLook, dataLook, partLook, partOf, callFits, look, lookNo, leaves, looked, told, areaCall}
 

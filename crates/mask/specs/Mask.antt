@@ -5,10 +5,7 @@ use mathlib.Core.List.{List, [], _∷_}
 use lib.ListN.{getD}
 use lib.Dec.{eqb}
 use Rattle.cells.specs.Choice.{both}
-use Rattle.mask.specs.declared.Writing.{Writing}
-use Rattle.mask.specs.declared.Writing.the-variants.{HomeOrZero, Record, Update}
-use Rattle.mask.specs.declared.Seeking.{Seeking}
-use Rattle.mask.specs.declared.Seeking.the-variants.{Seek, SeekCylinder, SeekHead}
+use Rattle.mask.specs.declared.{Writing.Writing, Seeking.Seeking}
 
 -- bits 0 and 1, and bits 3 and 4, each pair a number 0 to 3
 abbrev pub writeBits : ℕ → ℕ
@@ -23,15 +20,15 @@ legal m = both (eqb (m / 32 % 2) 0) (eqb (m % 8) 0)
 
 -- whether writing is barred with bits 0 and 1 at 00, 01, 10, 11, in that order
 unfoldable pub writesBarred : Writing → List Bool
-writesBarred HomeOrZero = true ∷ true ∷ true ∷ false ∷ []
-writesBarred Record = false ∷ true ∷ true ∷ false ∷ []
-writesBarred Update = false ∷ true ∷ false ∷ false ∷ []
+writesBarred Writing.HomeOrZero = true ∷ true ∷ true ∷ false ∷ []
+writesBarred Writing.Record = false ∷ true ∷ true ∷ false ∷ []
+writesBarred Writing.Update = false ∷ true ∷ false ∷ false ∷ []
 
 -- whether seeking is barred with bits 3 and 4 at 00, 01, 10, 11, in that order
 unfoldable pub seeksBarred : Seeking → List Bool
-seeksBarred Seek = false ∷ true ∷ true ∷ true ∷ []
-seeksBarred SeekCylinder = false ∷ false ∷ true ∷ true ∷ []
-seeksBarred SeekHead = false ∷ false ∷ false ∷ true ∷ []
+seeksBarred Seeking.Seek = false ∷ true ∷ true ∷ true ∷ []
+seeksBarred Seeking.SeekCylinder = false ∷ false ∷ true ∷ true ∷ []
+seeksBarred Seeking.SeekHead = false ∷ false ∷ false ∷ true ∷ []
 
 unfoldable pub barsWrite : ℕ → Writing → Bool
 barsWrite m w = getD (writesBarred w) (writeBits m) false

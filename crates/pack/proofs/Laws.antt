@@ -17,9 +17,7 @@ use Rattle.cells.specs.Bytes.{part, overlay}
 use Rattle.cells.specs.Cells.{trackCells}
 use Rattle.cells.proofs.Tests.{second-of}
 use Rattle.cells.proofs.Laws.{length-part, overlay-before, overlay-behind}
-use Rattle.pack.specs.declared.Cylinder.{Cylinder}
-use Rattle.pack.specs.declared.Head.{Head}
-use Rattle.pack.specs.declared.Shape.{Shape}
+use Rattle.pack.specs.declared.{Cylinder.Cylinder, Head.Head, Shape.Shape}
 use Rattle.pack.specs.Shapes.{mostCylinders, mostHeads, from1To, packFits}
 use Rattle.pack.specs.Tracks.{Whole, On, trackNo, startOf, trackAt, withTrack}
 

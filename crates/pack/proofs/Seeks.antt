@@ -7,10 +7,7 @@ use borrow.Author.Tests.{ltb-true}
 use Rattle.cells.specs.Choice.{pick, both}
 use Rattle.cells.proofs.Tests.{first-of, second-of}
 use Rattle.rows.specs.declared.Row.the-variants.{BadSeek}
-use Rattle.pack.specs.declared.Cylinder.{Cylinder}
-use Rattle.pack.specs.declared.Head.{Head}
-use Rattle.pack.specs.declared.Shape.{Shape}
-use Rattle.pack.specs.declared.Sought.{Sought}
+use Rattle.pack.specs.declared.{Cylinder.Cylinder, Head.Head, Shape.Shape, Sought.Sought}
 use Rattle.pack.specs.declared.Sought.the-variants.{Stands, Fails}
 use Rattle.pack.specs.Shapes.{cylinderOn, headOn, seekTo, seekHead}
 use Rattle.pack.specs.Tracks.{On}

@@ -5,12 +5,8 @@ use mathlib.Core.Bool.{Bool}
 use lib.Dec.{ltb, leb, eqb}
 use Rattle.cells.specs.Choice.{pick, both}
 use Rattle.cells.specs.Cells.{trackCells}
-use Rattle.rows.specs.declared.Row.the-variants.{BadSeek}
-use Rattle.pack.specs.declared.Cylinder.{Cylinder}
-use Rattle.pack.specs.declared.Head.{Head}
-use Rattle.pack.specs.declared.Shape.{Shape}
-use Rattle.pack.specs.declared.Sought.{Sought}
-use Rattle.pack.specs.declared.Sought.the-variants.{Stands, Fails}
+use Rattle.rows.specs.declared.{Row.Row}
+use Rattle.pack.specs.declared.{Cylinder.Cylinder, Head.Head, Shape.Shape, Sought.Sought}
 
 abbrev pub mostCylinders : ℕ
 mostCylinders = 203
@@ -43,8 +39,8 @@ headOn g h = ltb (h .0) (g .heads)
 
 -- Seek and Seek Cylinder: BB = 0, CC and HH on the pack
 unfoldable pub seekTo : Shape → ℕ → Cylinder → Head → Sought
-seekTo g bb c h = pick (both (eqb bb 0) (both (cylinderOn g c) (headOn g h))) (Stands c h) (Fails BadSeek)
+seekTo g bb c h = pick (both (eqb bb 0) (both (cylinderOn g c) (headOn g h))) (Sought.Stands c h) (Sought.Fails Row.BadSeek)
 
 -- Seek Head tests and uses HH only
 unfoldable pub seekHead : Shape → Cylinder → Head → Sought
-seekHead g c h = pick (headOn g h) (Stands c h) (Fails BadSeek)
+seekHead g c h = pick (headOn g h) (Sought.Stands c h) (Sought.Fails Row.BadSeek)

@@ -6,9 +6,7 @@ use mathlib.Core.List.{List}
 use lib.ListN.{length}
 use Rattle.cells.specs.Bytes.{part, overlay}
 use Rattle.cells.specs.Cells.{trackCells}
-use Rattle.pack.specs.declared.Cylinder.{Cylinder}
-use Rattle.pack.specs.declared.Head.{Head}
-use Rattle.pack.specs.declared.Shape.{Shape}
+use Rattle.pack.specs.declared.{Cylinder.Cylinder, Head.Head, Shape.Shape}
 use Rattle.pack.specs.Shapes.{mostCylinders, mostHeads}
 
 -- a pack of a right size with the cells that its tracks have

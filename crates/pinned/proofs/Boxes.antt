@@ -7,8 +7,8 @@ use mathlib.Core.List.{List, [], _∷_}
 use lib.ListN.{getD}
 use lib.Dec.{lit≤}
 use Rattle.cells.specs.Choice.{pick}
-use Rattle.words.specs.declared.Word.{Word}
-use Rattle.pack.specs.declared.Shape.{Shape}
+use Rattle.words.specs.declared.{Word.Word}
+use Rattle.pack.specs.declared.{Shape.Shape}
 use Rattle.held.specs.Held.{fresh}
 use Rattle.chain.specs.Step.{World, world, step, run}
 use Rattle.chain.proofs.Runs.{run-idle}

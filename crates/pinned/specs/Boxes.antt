@@ -5,25 +5,20 @@ use mathlib.Core.Bool.{Bool, true}
 use mathlib.Core.List.{List, [], _∷_}
 use lib.Dec.{ltb, leb}
 use Rattle.cells.specs.Choice.{pick, both}
-use Rattle.rows.specs.declared.Row.the-variants.{Unreadable}
-use Rattle.words.specs.declared.Word.{Word}
-use Rattle.words.specs.declared.Status.{Status}
-use Rattle.words.specs.declared.Tested.{Tested}
-use Rattle.words.specs.declared.Tested.the-variants.{Obey, Jump, Bad}
+use Rattle.rows.specs.declared.{Row.Row}
+use Rattle.words.specs.declared.{Word.Word, Status.Status, Tested.Tested}
 use Rattle.words.specs.Status.{stored, statusFor}
-use Rattle.pack.specs.declared.Shape.{Shape}
-use Rattle.held.specs.declared.Channel.{Channel}
+use Rattle.pack.specs.declared.{Shape.Shape}
+use Rattle.held.specs.declared.{Channel.Channel}
 use Rattle.held.specs.Held.{rested}
 use Rattle.channel.specs.Channel.{unitStatus}
-use Rattle.table.specs.declared.Act.{Act}
-use Rattle.table.specs.declared.Act.the-variants as Act
+use Rattle.table.specs.declared.{Act.Act}
 use Rattle.table.specs.Table.{ruleOf}
-use Rattle.turn.specs.declared.Told.{Told}
+use Rattle.turn.specs.declared.{Told.Told}
 use Rattle.turn.specs.Turn.{given, Turn, toldOf, checks}
 use Rattle.channel.specs.Channel.{placed, wrongLength, goesOn}
 use Rattle.chain.specs.Step.{World, world, next, turnOf, settled, obeyed, takes, step, run}
-use Rattle.host.specs.declared.Answer.{Answer}
-use Rattle.host.specs.declared.Answer.the-variants.{ChainEnded, AllowanceUsed, NoChain}
+use Rattle.host.specs.declared.{Answer.Answer}
 use Rattle.host.specs.Host.{Hears, hears, guardOf, guards, starts, ran, goes}
 
 -- ---- what a host could be given, and what is said of it
@@ -61,7 +56,7 @@ runBy one (suc n) w = pick (w .held .channel .going) (runBy one n (one w)) w
 unfoldable pub steppedBy : (Shape → World → World) → Box
 steppedBy one = record {
   start = starts;
-  go = λ g n w. guards (guardOf g w) w (pick (w .held .channel .going) (ran (runBy (one g) n w)) (hears NoChain w));
+  go = λ g n w. guards (guardOf g w) w (pick (w .held .channel .going) (ran (runBy (one g) n w)) (hears Answer.NoChain w));
 }
 
 -- ---- "Refusing always": one answer, and all unchanged
@@ -72,12 +67,12 @@ refusesAlways a = record { start = λ g w. hears a w; go = λ g n w. hears a w }
 -- ---- "one fixed reply": the refusals as they should be; else the chain ended, with one status word whatever the chain
 
 unfoldable pub replied : Status → World → Hears
-replied x w = hears ChainEnded (world (rested (w .held .stands)) (stored (w .storage) x) (w .cells))
+replied x w = hears Answer.ChainEnded (world (rested (w .held .stands)) (stored (w .storage) x) (w .cells))
 
 unfoldable pub fixedReply : Status → Box
 fixedReply x = record {
   start = starts;
-  go = λ g n w. guards (guardOf g w) w (pick (w .held .channel .going) (replied x w) (hears NoChain w));
+  go = λ g n w. guards (guardOf g w) w (pick (w .held .channel .going) (replied x w) (hears Answer.NoChain w));
 }
 
 -- ---- "or doing nothing": it answers like the right one, and leaves all as it was lent
@@ -90,13 +85,13 @@ doesNothing = record { start = λ g w. hears (starts g w .answer) w; go = λ g n
 unfoldable pub checksRead : Shape → World → Word → Act → World
 checksRead g w d (Act.Control a) = obeyed g w d
 checksRead g w d (Act.Search h) = obeyed g w d
-checksRead g w d (Act.Read c) = settled g w d (checks (w .held .stands) (w .held .orders) [] Unreadable)
+checksRead g w d (Act.Read c) = settled g w d (checks (w .held .stands) (w .held .orders) [] Row.Unreadable)
 checksRead g w d (Act.Write a) = obeyed g w d
 
 unfoldable pub takesChecking : Shape → World → Tested → World
-takesChecking g w (Obey d) = checksRead g w d (ruleOf (d .code) .act)
-takesChecking g w (Jump a) = takes g w (Jump a)
-takesChecking g w (Bad cause) = takes g w (Bad cause)
+takesChecking g w (Tested.Obey d) = checksRead g w d (ruleOf (d .code) .act)
+takesChecking g w (Tested.Jump a) = takes g w (Tested.Jump a)
+takesChecking g w (Tested.Bad cause) = takes g w (Tested.Bad cause)
 
 unfoldable pub dataChecksReads : Box
 dataChecksReads = steppedBy (λ g w. takesChecking g w (next w))
@@ -111,12 +106,12 @@ counted g (suc k) w = pick (w .held .channel .going) (suc (counted g k (step g w
 
 unfoldable pub atOnce : Shape → ℕ → ℕ → World → Hears
 atOnce g most n w =
-    hears (pick (leb (counted g most w) n) ChainEnded AllowanceUsed) (world (run g n w .held) (run g most w .storage) (run g most w .cells))
+    hears (pick (leb (counted g most w) n) Answer.ChainEnded Answer.AllowanceUsed) (world (run g n w .held) (run g most w .storage) (run g most w .cells))
 
 unfoldable pub runsAtOnce : ℕ → Box
 runsAtOnce most = record {
   start = starts;
-  go = λ g n w. guards (guardOf g w) w (pick (w .held .channel .going) (atOnce g most n w) (hears NoChain w));
+  go = λ g n w. guards (guardOf g w) w (pick (w .held .channel .going) (atOnce g most n w) (hears Answer.NoChain w));
 }
 
 -- ---- "An invented count left": it is told from the command word in any way, but not from the bytes that moved
@@ -130,9 +125,9 @@ settledInventing left g w d t =
     world (settled g w d t .held) (inventedAfter left (w .held .channel) d (toldOf t) (placed (w .storage) d (given (t .moves)))) (settled g w d t .cells)
 
 unfoldable pub takesInventing : (Word → ℕ) → Shape → World → Tested → World
-takesInventing left g w (Obey d) = settledInventing left g w d (turnOf g w d)
-takesInventing left g w (Jump a) = takes g w (Jump a)
-takesInventing left g w (Bad cause) = takes g w (Bad cause)
+takesInventing left g w (Tested.Obey d) = settledInventing left g w d (turnOf g w d)
+takesInventing left g w (Tested.Jump a) = takes g w (Tested.Jump a)
+takesInventing left g w (Tested.Bad cause) = takes g w (Tested.Bad cause)
 
 unfoldable pub inventsCount : (Word → ℕ) → Box
 inventsCount left = steppedBy (λ g w. takesInventing left g w (next w))

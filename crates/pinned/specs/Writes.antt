@@ -7,12 +7,11 @@ use mathlib.Core.List.{List, [], _∷_}
 use lib.ListN.{getD}
 use lib.Dec.{eqb}
 use Rattle.cells.specs.Choice.{pick, both, either}
-use Rattle.rows.specs.declared.Row.the-variants.{WriteBarred}
+use Rattle.rows.specs.declared.{Row.Row}
 use Rattle.mask.specs.Mask.{writeBits}
-use Rattle.held.specs.declared.Orders.{Orders}
+use Rattle.held.specs.declared.{Orders.Orders}
 use Rattle.table.specs.Table.{ruleOf}
-use Rattle.command.specs.declared.Plan.{Plan}
-use Rattle.command.specs.declared.Plan.the-variants.{Refuses}
+use Rattle.command.specs.declared.{Plan.Plan}
 use Rattle.command.specs.Command.{licensed, unlessBarred}
 
 -- ---- what may come before, by its code and whether its search was equal over the whole field
@@ -44,7 +43,7 @@ barredAt01 = false ∷ true ∷ false ∷ false ∷ []
 
 pub record Needs (code : ℕ) (follows : ℕ → Bool → Bool) (barred : List Bool) : Type 0 where
   pub licence : (o : Orders) → licensed (ruleOf code .licence) o ≡ follows (o .before) (o .whole)
-  pub mask : (m : ℕ) (p : Plan) → unlessBarred (ruleOf code .bar) m p ≡ pick (getD barred (writeBits m) false) (Refuses WriteBarred) p
+  pub mask : (m : ℕ) (p : Plan) → unlessBarred (ruleOf code .bar) m p ≡ pick (getD barred (writeBits m) false) (Plan.Refuses Row.WriteBarred) p
 
 pub record Writes : Type 0 where
   -- Write HA needs mask 11

@@ -11,11 +11,10 @@ use Rattle.cells.specs.Choice.{pick}
 use Rattle.cells.specs.Bytes.{part, overlay}
 use Rattle.cells.specs.Cells.{byteOf, bytesOf}
 use Rattle.cells.proofs.Laws.{length-bytesOf, getD-bytesOf, take-bytesOf, drop-bytesOf, getD-part, length-overlay, overlay-none, overlay-two, put-more, take-min}
-use Rattle.areas.specs.declared.Area.{Area}
-use Rattle.areas.specs.declared.Counts.{Counts}
+use Rattle.areas.specs.declared.{Area.Area, Counts.Counts}
 use Rattle.areas.specs.Areas.{keyArea, dataArea}
 use Rattle.turn.specs.Turn.{filled}
-use Rattle.reads.specs.declared.Rest.{Rest}
+use Rattle.reads.specs.declared.{Rest.Rest}
 use Rattle.reads.specs.Inside.{LieIf, portion, Puts, start, recordGiven}
 
 -- ---- cells of the track

@@ -9,21 +9,20 @@ use Rattle.cells.specs.Choice.{pick}
 use Rattle.cells.specs.Bytes.{part}
 use Rattle.cells.specs.Cells.{byteOf, bytesOf}
 use Rattle.cells.proofs.Laws.{part-cons}
-use Rattle.areas.specs.declared.Counts.{Counts}
+use Rattle.areas.specs.declared.{Counts.Counts}
 use Rattle.areas.specs.Areas.{countsAt}
 use Rattle.areas.proofs.Laws.{counts-are}
-use Rattle.pack.specs.declared.Head.{Head}
+use Rattle.pack.specs.declared.{Head.Head}
 use Rattle.command.specs.declared.Got.the-variants.{Sees}
 use Rattle.command.specs.Command.{Seen, idOf, sent, gets, saw}
 use Rattle.command.proofs.Seen.{count-lies, record-counts, record-key, record-body, key-lies, body-lies, home-seen, home-lies}
-use Rattle.table.specs.declared.Names.{Names}
-use Rattle.table.specs.declared.Names.the-variants as Names
-use Rattle.turn.specs.declared.Moving.the-variants as Moving
+use Rattle.table.specs.declared.{Names.Names}
+use Rattle.turn.specs.declared.{Moving.Moving}
 use Rattle.turn.specs.Turn.{Tracks, given, movingOf, filled, toldOf}
-use Rattle.command.specs.declared.Job.{Job}
+use Rattle.command.specs.declared.{Job.Job}
 use Rattle.command.specs.Command.{areasOf, areasRead, sight, Sighted, endsAt, ends, endingOf, offered, gives}
 use Rattle.ending.specs.Ending.{endedAt}
-use Rattle.reads.specs.declared.Rest.{Rest}
+use Rattle.reads.specs.declared.{Rest.Rest}
 use Rattle.reads.specs.Inside.{readTold, LieIf, LieAll, Puts, start, countGiven, keyGiven, bodyGiven, bytesGiven, manyGiven}
 use Rattle.reads.proofs.Laws.{long, all-put, none-put}
 

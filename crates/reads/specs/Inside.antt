@@ -7,15 +7,13 @@ use lib.ListN.{length, take, drop}
 use Rattle.cells.specs.Choice.{pick}
 use Rattle.cells.specs.Bytes.{part, overlay}
 use Rattle.cells.specs.Cells.{bytesOf}
-use Rattle.areas.specs.declared.Counts.{Counts}
+use Rattle.areas.specs.declared.{Counts.Counts}
 use Rattle.areas.specs.Areas.{homeBytes, keyArea, dataArea}
 use Rattle.recording.specs.Recording.{countSent}
-use Rattle.table.specs.declared.Names.{Names}
-use Rattle.table.specs.declared.Names.the-variants as Names
-use Rattle.reads.specs.declared.Rest.{Rest}
-use Rattle.turn.specs.declared.Moving.the-variants as Moving
-use Rattle.turn.specs.declared.Told.{Told}
-use Rattle.command.specs.declared.Job.{Job}
+use Rattle.table.specs.declared.{Names.Names}
+use Rattle.reads.specs.declared.{Rest.Rest}
+use Rattle.turn.specs.declared.{Moving.Moving, Told.Told}
+use Rattle.command.specs.declared.{Job.Job}
 use Rattle.command.specs.Command.{endingOf}
 use Rattle.ending.specs.Ending.{endedAt}
 

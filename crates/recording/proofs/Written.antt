@@ -13,7 +13,7 @@ use Rattle.cells.proofs.Numbers.{Bytes}
 use Rattle.house_check.specs.Check.{check}
 use Rattle.house_check.specs.Area.{goodCells, checked, laid, sixteen}
 use Rattle.house_check.proofs.Cells.{laid-good, length-laid, laid-bytes}
-use Rattle.areas.specs.declared.Part.{Part}
+use Rattle.areas.specs.declared.{Part.Part}
 use Rattle.areas.specs.Areas.{area, areaCells, readable, areaBytes}
 
 module _ (t : List ℕ) (p : Part) (first : ℕ) (v : List ℕ) (bytes : Bytes v) (ends : first + length v + 2 ≤ length t) where

@@ -10,18 +10,17 @@ use lib.Seq.{drop-drop, take-all}
 use Rattle.cells.specs.Bytes.{number, part}
 use Rattle.cells.specs.Cells.{byteOf, bytesOf}
 use Rattle.cells.proofs.Laws.{length-bytesOf, take-bytesOf, length-part, take-min}
-use Rattle.areas.specs.declared.Counts.{Counts}
+use Rattle.areas.specs.declared.{Counts.Counts}
 use Rattle.areas.specs.Areas.{countArea, keyArea, countsOf, countsAt}
-use Rattle.compare.specs.declared.Compared.{Compared}
+use Rattle.compare.specs.declared.{Compared.Compared}
 use Rattle.compare.specs.Compare.{compared, comparedBytes, There}
-use Rattle.pack.specs.declared.Head.{Head}
+use Rattle.pack.specs.declared.{Head.Head}
 use Rattle.command.specs.declared.Got.the-variants.{Sees}
 use Rattle.command.specs.Command.{Seen, idOf, gets, saw}
 use Rattle.command.proofs.Seen.{area-bytes, count-lies, record-counts, key-lies, record-key, home-seen, home-lies}
-use Rattle.table.specs.declared.Names.{Names}
-use Rattle.table.specs.declared.Names.the-variants as Names
+use Rattle.table.specs.declared.{Names.Names}
 use Rattle.turn.specs.Turn.{alone}
-use Rattle.command.specs.declared.Job.{Job}
+use Rattle.command.specs.declared.{Job.Job}
 use Rattle.command.specs.Command.{Sighted, areasOf, areasRead, fieldOf, comparison}
 use Rattle.searches.specs.Field.{fieldFirst, fieldLength}
 

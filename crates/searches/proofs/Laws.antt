@@ -6,8 +6,8 @@ use lib.Dec.{leb}
 use borrow.Author.Tests.{le-leb, lt-leb}
 use Rattle.cells.specs.Choice.{both}
 use Rattle.cells.proofs.Tests.{zero-ltb, nonzero-ltb}
-use Rattle.compare.specs.declared.Compared.{Compared}
-use Rattle.table.specs.declared.How.{How}
+use Rattle.compare.specs.declared.{Compared.Compared}
+use Rattle.table.specs.declared.{How.How}
 use Rattle.command.specs.Command.{satisfies, found, equalOnly}
 
 module _ (h : How) (x : Compared) (n : ℕ) where

@@ -9,15 +9,13 @@ use lib.Dec.{leb}
 use Rattle.cells.specs.Choice.{pick, both}
 use Rattle.cells.specs.Bytes.{part}
 use Rattle.cells.specs.Cells.{bytesOf}
-use Rattle.compare.specs.declared.Compared.{Compared}
-use Rattle.table.specs.declared.How.{How}
-use Rattle.turn.specs.declared.Ending.{Ending}
+use Rattle.compare.specs.declared.{Compared.Compared}
+use Rattle.table.specs.declared.{How.How}
+use Rattle.turn.specs.declared.{Ending.Ending, Moving.Moving, Told.Told}
 use Rattle.turn.specs.declared.Ending.the-variants.{Normal, Satisfied}
 use Rattle.command.specs.Command.{found, equalOnly}
-use Rattle.turn.specs.declared.Moving.the-variants as Moving
-use Rattle.turn.specs.declared.Told.{Told}
 use Rattle.turn.specs.Turn.{alone, movingOf, toldOf}
-use Rattle.command.specs.declared.Job.{Job}
+use Rattle.command.specs.declared.{Job.Job}
 use Rattle.command.specs.Command.{Sighted, sight, comparison, satisfied, wholly, comparesWith, compares}
 use Rattle.ending.specs.Ending.{endedAt}
 use Rattle.ending.proofs.Laws.{ended}

@@ -6,19 +6,15 @@ use mathlib.Core.List.{List, [], _∷_, _++_}
 use lib.Dec.{ltb}
 use Rattle.cells.specs.Choice.{pick, both}
 use Rattle.cells.proofs.Tests.{first-picked, second-picked}
-use Rattle.rows.specs.declared.Row.{Row}
+use Rattle.rows.specs.declared.{Row.Row}
 use Rattle.rows.specs.declared.Row.the-variants.{UnreadableCount}
-use Rattle.areas.specs.declared.Area.{Area}
-use Rattle.areas.specs.declared.Counts.{Counts}
-use Rattle.areas.specs.declared.CountRead.{CountRead}
-use Rattle.areas.specs.declared.CountRead.the-variants as CountRead
+use Rattle.areas.specs.declared.{Area.Area, Counts.Counts, CountRead.CountRead}
 use Rattle.areas.specs.Areas.{homeArea, countArea, keyArea, dataArea, readable, rowOf, countsAt, readCount}
-use Rattle.pack.specs.declared.Head.{Head}
-use Rattle.command.specs.declared.Got.{Got}
+use Rattle.pack.specs.declared.{Head.Head}
+use Rattle.command.specs.declared.{Got.Got}
 use Rattle.command.specs.declared.Got.the-variants.{Sees, Fails}
 use Rattle.command.specs.Command.{areaIf, named, namedBy, noCounts}
-use Rattle.table.specs.declared.Names.{Names}
-use Rattle.table.specs.declared.Names.the-variants as Names
+use Rattle.table.specs.declared.{Names.Names}
 use Rattle.turn.specs.Turn.{Tracks}
 use Rattle.command.specs.Command.{liesOn, areasOf, allRead, countsIn, gets}
 

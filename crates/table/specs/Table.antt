@@ -6,29 +6,8 @@ use mathlib.Core.Bool.{Bool, true, false}
 use mathlib.Core.List.{List, [], _∷_}
 use lib.Dec.{eqb}
 use Rattle.cells.specs.Choice.{pick}
-use Rattle.mask.specs.declared.Seeking.{Seeking}
-use Rattle.mask.specs.declared.Seeking.the-variants.{Seek, SeekCylinder, SeekHead}
-use Rattle.mask.specs.declared.Writing.{Writing}
-use Rattle.mask.specs.declared.Writing.the-variants as Writing
-use Rattle.table.specs.declared.How.{How}
-use Rattle.table.specs.declared.How.the-variants.{IfEqual, IfHigh, IfEqualOrHigh}
-use Rattle.table.specs.declared.Licence.{Licence}
-use Rattle.table.specs.declared.Licence.the-variants as Licence
-use Rattle.table.specs.declared.Bar.{Bar}
-use Rattle.table.specs.declared.Bar.the-variants as Bar
-use Rattle.table.specs.declared.Aim.{Aim}
-use Rattle.table.specs.declared.Aim.the-variants as Aim
-use Rattle.table.specs.declared.Names.{Names}
-use Rattle.table.specs.declared.Names.the-variants as Names
-use Rattle.table.specs.declared.Serves.{Serves}
-use Rattle.table.specs.declared.Serves.the-variants as Serves
-use Rattle.table.specs.declared.Control.{Control}
-use Rattle.table.specs.declared.Control.the-variants as Control
-use Rattle.table.specs.declared.Write.{Write}
-use Rattle.table.specs.declared.Write.the-variants as Write
-use Rattle.table.specs.declared.Act.{Act}
-use Rattle.table.specs.declared.Act.the-variants as Act
-use Rattle.table.specs.declared.Rule.{Rule}
+use Rattle.mask.specs.declared.{Seeking.Seeking, Writing.Writing}
+use Rattle.table.specs.declared.{How.How, Licence.Licence, Bar.Bar, Aim.Aim, Names.Names, Serves.Serves, Control.Control, Write.Write, Act.Act, Rule.Rule}
 
 -- ---- values of the columns
 
@@ -99,9 +78,9 @@ unfoldable pub controls : List Entry
 controls =
     row 0x03 (quiet Control.NoOp)
     ∷ row 0x04 (quiet Control.Sense)
-    ∷ row 0x07 (seek Seek)
-    ∷ row 0x0B (seek SeekCylinder)
-    ∷ row 0x1B (seek SeekHead)
+    ∷ row 0x07 (seek Seeking.Seek)
+    ∷ row 0x0B (seek Seeking.SeekCylinder)
+    ∷ row 0x1B (seek Seeking.SeekHead)
     ∷ row 0x1F (control Licence.Any Bar.Nothing Control.SetMask)
     ∷ row 0x0F (control Licence.Look Bar.Nothing Control.SpaceRecord)
     ∷ []
@@ -109,13 +88,13 @@ controls =
 -- Search HA; Search ID equal, high, equal or high; Search Key so
 unfoldable pub searches : List Entry
 searches =
-    row 0x39 (search Aim.HomeAddress Names.HomeAddress leaves Serves.Nobody IfEqual)
-    ∷ row 0x31 (search Aim.NextId count selects Serves.DataAndKey IfEqual)
-    ∷ row 0x51 (search Aim.NextId count selects Serves.DataAndKey IfHigh)
-    ∷ row 0x71 (search Aim.NextId count selects Serves.DataAndKey IfEqualOrHigh)
-    ∷ row 0x29 (search Aim.NextForKey countKey selects Serves.Data IfEqual)
-    ∷ row 0x49 (search Aim.NextForKey countKey selects Serves.Data IfHigh)
-    ∷ row 0x69 (search Aim.NextForKey countKey selects Serves.Data IfEqualOrHigh)
+    row 0x39 (search Aim.HomeAddress Names.HomeAddress leaves Serves.Nobody How.IfEqual)
+    ∷ row 0x31 (search Aim.NextId count selects Serves.DataAndKey How.IfEqual)
+    ∷ row 0x51 (search Aim.NextId count selects Serves.DataAndKey How.IfHigh)
+    ∷ row 0x71 (search Aim.NextId count selects Serves.DataAndKey How.IfEqualOrHigh)
+    ∷ row 0x29 (search Aim.NextForKey countKey selects Serves.Data How.IfEqual)
+    ∷ row 0x49 (search Aim.NextForKey countKey selects Serves.Data How.IfHigh)
+    ∷ row 0x69 (search Aim.NextForKey countKey selects Serves.Data How.IfEqualOrHigh)
     ∷ []
 
 -- Read HA, R0, Count, Data, Key and Data, Count Key Data

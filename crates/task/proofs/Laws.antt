@@ -6,24 +6,18 @@ use mathlib.Core.List.{List}
 use native.Mathlib.Omega.{arith}
 use Rattle.cells.specs.Choice.{pick}
 use Rattle.cells.specs.Cells.{trackCells, marks}
-use Rattle.rows.specs.declared.Row.the-variants as Row
-use Rattle.hunt.specs.declared.Spot.{Spot}
-use Rattle.hunt.specs.declared.Next.{Next}
-use Rattle.hunt.specs.declared.Next.the-variants as Next
+use Rattle.rows.specs.declared.{Row.Row}
+use Rattle.hunt.specs.declared.{Spot.Spot, Next.Next}
 use Rattle.hunt.specs.Hunt.{Whole, countFirst, spacedTo}
 use Rattle.hunt.proofs.Inside.{NextOn, next-in, spot-in}
-use Rattle.held.specs.declared.Selection.{Selection}
+use Rattle.held.specs.declared.{Selection.Selection, Stands.Stands, Orders.Orders}
 use Rattle.held.specs.declared.Selection.the-variants.{Nothing, On}
-use Rattle.held.specs.declared.Stands.{Stands}
-use Rattle.held.specs.declared.Orders.{Orders}
-use Rattle.pack.specs.declared.Head.{Head}
+use Rattle.pack.specs.declared.{Head.Head}
 use Rattle.command.specs.Command.{SelectedOn}
 use Rattle.task.specs.Inside.{selectedPlace}
-use Rattle.table.specs.declared.Aim.{Aim}
-use Rattle.table.specs.declared.Aim.the-variants as Aim
-use Rattle.table.specs.declared.Rule.{Rule}
+use Rattle.table.specs.declared.{Aim.Aim, Rule.Rule}
 use Rattle.turn.specs.Turn.{Tracks, alone}
-use Rattle.command.specs.declared.Plan.{Plan}
+use Rattle.command.specs.declared.{Plan.Plan}
 use Rattle.command.specs.declared.Plan.the-variants.{Refuses}
 use Rattle.command.specs.Command.{Marks, marksOf, licensed, onRecord, onSelected, toNext, toServed, aimed, unlessBarred, plans}
 

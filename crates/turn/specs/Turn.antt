@@ -5,20 +5,12 @@ use mathlib.Core.Bool.{Bool, true, false}
 use mathlib.Core.List.{List, [], _∷_}
 use lib.ListN.{length, take, drop}
 use Rattle.cells.specs.Bytes.{overlay}
-use Rattle.rows.specs.declared.Row.{Row}
-use Rattle.rows.specs.declared.Sense.{Sense}
+use Rattle.rows.specs.declared.{Row.Row, Sense.Sense}
 use Rattle.rows.specs.Rows.{sense, senseOf, rowTakes}
-use Rattle.areas.specs.declared.Area.{Area}
-use Rattle.pack.specs.declared.Cylinder.{Cylinder}
-use Rattle.pack.specs.declared.Head.{Head}
-use Rattle.held.specs.declared.Stands.{Stands}
-use Rattle.held.specs.declared.Orders.{Orders}
-use Rattle.held.specs.declared.Selection.{Selection}
-use Rattle.turn.specs.declared.Ending.{Ending}
-use Rattle.turn.specs.declared.Ending.the-variants.{Normal, Satisfied, Exception, Check}
-use Rattle.turn.specs.declared.Moving.{Moving}
-use Rattle.turn.specs.declared.Moving.the-variants as Moving
-use Rattle.turn.specs.declared.Told.{Told}
+use Rattle.areas.specs.declared.{Area.Area}
+use Rattle.pack.specs.declared.{Cylinder.Cylinder, Head.Head}
+use Rattle.held.specs.declared.{Stands.Stands, Orders.Orders, Selection.Selection}
+use Rattle.turn.specs.declared.{Ending.Ending, Moving.Moving, Told.Told}
 
 -- all that a command sees of the pack: the tracks of the cylinder, by their heads
 abbrev pub Tracks : Type 0
@@ -120,10 +112,10 @@ after o code whole tally selection = ordered (o .mask) (o .«mask_set») code wh
 -- ---- Unit Check: no cell is laid, the place stands, and sense says the row
 
 unfoldable pub isCheck : Ending → Bool
-isCheck Normal = false
-isCheck Satisfied = false
-isCheck Exception = false
-isCheck (Check row) = true
+isCheck Ending.Normal = false
+isCheck Ending.Satisfied = false
+isCheck Ending.Exception = false
+isCheck (Ending.Check row) = true
 
 unfoldable pub checks : Stands → Orders → List Lies → Row → Turn
-checks s o r row = turn (Check row) (Takes (rowTakes row)) r [] (sensing s (senseOf row)) o
+checks s o r row = turn (Ending.Check row) (Takes (rowTakes row)) r [] (sensing s (senseOf row)) o

@@ -8,29 +8,17 @@ use lib.Seq.{take-nil, drop-nil}
 use Rattle.table.specs.Table.{isWrite}
 use Rattle.cells.specs.Bytes.{overlay}
 use Rattle.cells.proofs.Laws.{overlay-none}
-use Rattle.rows.specs.declared.Row.{Row}
-use Rattle.areas.specs.declared.Counts.{Counts}
-use Rattle.pack.specs.declared.Head.{Head}
-use Rattle.pack.specs.declared.Shape.{Shape}
-use Rattle.held.specs.declared.Stands.{Stands}
-use Rattle.held.specs.declared.Orders.{Orders}
-use Rattle.command.specs.declared.Got.{Got}
+use Rattle.rows.specs.declared.{Row.Row}
+use Rattle.areas.specs.declared.{Counts.Counts}
+use Rattle.pack.specs.declared.{Head.Head, Shape.Shape}
+use Rattle.held.specs.declared.{Stands.Stands, Orders.Orders}
+use Rattle.command.specs.declared.{Got.Got, Task.Task, Plan.Plan, Job.Job, Ready.Ready}
 use Rattle.command.specs.declared.Got.the-variants.{Sees, Fails}
-use Rattle.table.specs.declared.Control.{Control}
-use Rattle.table.specs.declared.Control.the-variants as Control
-use Rattle.table.specs.declared.Act.{Act}
-use Rattle.table.specs.declared.Act.the-variants as Act
-use Rattle.table.specs.declared.Write.{Write}
-use Rattle.table.specs.declared.Rule.{Rule}
+use Rattle.table.specs.declared.{Control.Control, Act.Act, Write.Write, Rule.Rule}
 use Rattle.table.specs.Table.{ruleOf}
-use Rattle.turn.specs.declared.Told.{Told}
+use Rattle.turn.specs.declared.{Told.Told}
 use Rattle.turn.specs.Turn.{Tracks, Piece, alone, given, filled, toldOf, laid, isCheck}
-use Rattle.command.specs.declared.Task.{Task}
-use Rattle.command.specs.declared.Plan.{Plan}
 use Rattle.command.specs.declared.Plan.the-variants.{Refuses, Works}
-use Rattle.command.specs.declared.Job.{Job}
-use Rattle.command.specs.declared.Ready.{Ready}
-use Rattle.command.specs.declared.Ready.the-variants as Ready
 use Rattle.command.specs.Command.{marksOf, plans, gets, Sight, sight, ends, endsAt, senseBytes, senses, does, lays, acts, jobOf, hasRead, readyBy, readies}
 use Rattle.unit.specs.Unit.{Accepts}
 use Rattle.frame.specs.Frame.{givesBytes}

@@ -3,9 +3,9 @@ use Prim.Native.Nat.{ℕ}
 use mathlib.Core.Path.{_≡_}
 use mathlib.Core.Bool.{false}
 use mathlib.Core.List.{List}
-use Rattle.pack.specs.declared.Shape.{Shape}
+use Rattle.pack.specs.declared.{Shape.Shape}
 use Rattle.turn.specs.Turn.{alone, isCheck}
-use Rattle.command.specs.declared.Job.{Job}
+use Rattle.command.specs.declared.{Job.Job}
 use Rattle.command.specs.Command.{sight, acts}
 
 -- with these bytes, on this track, the job does not end in Unit Check

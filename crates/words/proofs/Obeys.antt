@@ -9,11 +9,9 @@ use lib.Dec.{leb, ltb}
 use borrow.Author.Tests.{leb-true}
 use Rattle.cells.specs.Choice.{pick}
 use Rattle.cells.proofs.Tests.{pick-all}
-use Rattle.words.specs.declared.Word.{Word}
+use Rattle.words.specs.declared.{Word.Word, Tested.Tested, Cause.Cause}
 use Rattle.words.specs.declared.Cause.the-variants.{Area}
-use Rattle.words.specs.declared.Tested.{Tested}
 use Rattle.words.specs.declared.Tested.the-variants.{Obey, Jump, Bad}
-use Rattle.words.specs.declared.Cause.{Cause}
 use Rattle.words.specs.Status.{Storable, statusFor, programCheck}
 use Rattle.words.specs.Words.{isTic, placed, flagsKnown, testedCommand, testedWord, tested, wordAt}
 

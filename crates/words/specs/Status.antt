@@ -3,9 +3,7 @@ use Prim.Native.Nat.{ℕ, _+_, _*_, _/_, _%_, _<_, _≤_}
 use mathlib.Core.List.{List, [], _∷_}
 use lib.ListN.{length}
 use Rattle.cells.specs.Bytes.{overlay}
-use Rattle.words.specs.declared.Status.{Status}
-use Rattle.words.specs.declared.Cause.{Cause}
-use Rattle.words.specs.declared.Cause.the-variants.{Place, TicAfterTic, Flags, NoCount, Code, Area}
+use Rattle.words.specs.declared.{Status.Status, Cause.Cause}
 use Rattle.words.specs.Words.{addresses, along, wordBytes}
 
 -- stored at 64: key and zeros, address, unit status, channel status, count left
@@ -45,12 +43,12 @@ statusFor key at unit channel left = record {
 
 -- the channel status of a program check, by its cause
 unfoldable pub channelFor : Cause → ℕ
-channelFor Place = 0x20
-channelFor TicAfterTic = 0x20
-channelFor Flags = 0x20
-channelFor NoCount = 0x20
-channelFor Code = 0x20
-channelFor Area = 0x20
+channelFor Cause.Place = 0x20
+channelFor Cause.TicAfterTic = 0x20
+channelFor Cause.Flags = 0x20
+channelFor Cause.NoCount = 0x20
+channelFor Cause.Code = 0x20
+channelFor Cause.Area = 0x20
 
 -- a program check's status word: unit status 00, HOUSE count 0
 unfoldable pub programCheck : ℕ → ℕ → Cause → Status

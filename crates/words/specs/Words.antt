@@ -6,12 +6,7 @@ use lib.ListN.{length, getD}
 use lib.Dec.{ltb, leb, eqb}
 use Rattle.cells.specs.Choice.{pick, both}
 use Rattle.cells.specs.Bytes.{be16, be24}
-use Rattle.words.specs.declared.Word.{Word}
-use Rattle.words.specs.declared.Begun.{Begun}
-use Rattle.words.specs.declared.Begun.the-variants.{Begins, Refused}
-use Rattle.words.specs.declared.Cause.the-variants.{Place, TicAfterTic, Flags, NoCount, Code, Area}
-use Rattle.words.specs.declared.Tested.{Tested}
-use Rattle.words.specs.declared.Tested.the-variants.{Obey, Jump, Bad}
+use Rattle.words.specs.declared.{Word.Word, Begun.Begun, Cause.Cause, Tested.Tested}
 
 -- HOUSE: every next word's address, and the status word's, is taken modulo 2 to the 24
 abbrev pub addresses : ℕ
@@ -27,7 +22,7 @@ addressWord = 72
 
 unfoldable pub begunBy : List ℕ → Begun
 begunBy s =
-    pick (eqb (getD s addressWord 0 % 16) 0) (Begins (getD s addressWord 0 / 16) (be24 s (addressWord + 1))) Refused
+    pick (eqb (getD s addressWord 0 % 16) 0) (Begun.Begins (getD s addressWord 0 / 16) (be24 s (addressWord + 1))) Begun.Refused
 
 -- ---- a command word, 8 bytes: code, address (3), flags, an ignored byte, count (2)
 
@@ -70,20 +65,20 @@ testedCommand s w =
     (pick (ltb 0 (w .count))
     (pick (ltb 0 (w .code % 16))
     (pick (leb (w .address + w .count) (length s))
-    (Obey w)
-    (Bad Area))
-    (Bad Code))
-    (Bad NoCount))
-    (Bad Flags)
+    (Tested.Obey w)
+    (Tested.Bad Cause.Area))
+    (Tested.Bad Cause.Code))
+    (Tested.Bad Cause.NoCount))
+    (Tested.Bad Cause.Flags)
 
 -- the tests of a word after a TIC or not
 unfoldable pub testedWord : List ℕ → Bool → Word → Tested
 testedWord s afterTic w =
-    pick (isTic w) (pick afterTic (Bad TicAfterTic) (Jump (w .address))) (testedCommand s w)
+    pick (isTic w) (pick afterTic (Tested.Bad Cause.TicAfterTic) (Tested.Jump (w .address))) (testedCommand s w)
 
 -- the tests of the word at an address of storage
 unfoldable pub tested : List ℕ → ℕ → Bool → Tested
-tested s at afterTic = pick (placed s at) (testedWord s afterTic (wordAt s at)) (Bad Place)
+tested s at afterTic = pick (placed s at) (testedWord s afterTic (wordAt s at)) (Tested.Bad Cause.Place)
 
 -- the word's area lies in storage, as its tests made sure
 pub record Reaches (s : List ℕ) (w : Word) : Type 0 where

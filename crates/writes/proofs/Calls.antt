@@ -10,8 +10,7 @@ use Rattle.cells.specs.Bytes.{part, overlay, padded}
 use Rattle.cells.specs.Cells.{marker}
 use Rattle.cells.proofs.Tests.{first-picked, second-picked}
 use Rattle.house_check.specs.Area as House
-use Rattle.areas.specs.declared.Area.{Area}
-use Rattle.areas.specs.declared.Counts.{Counts}
+use Rattle.areas.specs.declared.{Area.Area, Counts.Counts}
 use Rattle.areas.specs.Areas.{keyArea, dataArea, recordCells, endBy, needed}
 use Rattle.areas.specs.Flags.{flagOfZero, flagAfter}
 use Rattle.areas.proofs.Laws.{home-flag}
@@ -22,13 +21,9 @@ use Rattle.recording.specs.Recording.{areaWritten, wiped, Lies}
 use Rattle.laying.specs.Laying.{newCounts, newRecord, formatted, Ends}
 use Rattle.laying.proofs.Laws.{length-area, length-new}
 use Rattle.command.specs.Command.{named, seeing}
-use Rattle.table.specs.declared.Names.{Names}
-use Rattle.table.specs.declared.Write.{Write}
-use Rattle.table.specs.declared.Write.the-variants as Write
-use Rattle.table.specs.declared.Act.{Act}
-use Rattle.table.specs.declared.Act.the-variants as Act
+use Rattle.table.specs.declared.{Names.Names, Write.Write, Act.Act}
 use Rattle.turn.specs.Turn.{alone, laid, isCheck}
-use Rattle.command.specs.declared.Job.{Job}
+use Rattle.command.specs.declared.{Job.Job}
 use Rattle.command.specs.Command.{liesOn, areasOf, saw, writesOver, goesOver, allRecorded, Sight, areasRead, sight, laysR0, laysRecord, keySent, lays}
 use Rattle.writes.specs.Writes.{Writes, goneOver, updated, Over}
 use Rattle.writes.proofs.Laws.{home-lays, new-fits, new-lays, update-recorded, update-lays, recorded-over}

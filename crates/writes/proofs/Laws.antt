@@ -13,11 +13,10 @@ use Rattle.cells.specs.Choice.{pick, both}
 use Rattle.cells.specs.Bytes.{overlay, part, padded}
 use Rattle.cells.specs.Cells.{trackCells}
 use Rattle.cells.proofs.Tests.{first-of, second-of, first-picked}
-use Rattle.rows.specs.declared.Row.{Row}
+use Rattle.rows.specs.declared.{Row.Row}
 use Rattle.rows.specs.declared.Row.the-variants.{Unreadable, NoRoom}
 use Rattle.house_check.specs.Area as House
-use Rattle.areas.specs.declared.Area.{Area}
-use Rattle.areas.specs.declared.Counts.{Counts}
+use Rattle.areas.specs.declared.{Area.Area, Counts.Counts}
 use Rattle.areas.specs.Areas.{homeBytes, keyArea, dataArea}
 use Rattle.hunt.specs.Hunt.{Whole}
 use Rattle.room.specs.Room.{fits}
@@ -27,7 +26,7 @@ use Rattle.command.specs.Command.{areaIf, named}
 use Rattle.laying.specs.Laying.{formatted, recorded}
 use Rattle.laying.proofs.Laws.{formatted-is, length-area, recorded-lies}
 use Rattle.turn.specs.Turn.{Piece, Turn, laid, isCheck, checks}
-use Rattle.command.specs.declared.Task.{Task}
+use Rattle.command.specs.declared.{Task.Task}
 use Rattle.command.specs.Command.{Sight, allRecorded, fails, ends, endsAt, piece, toEnd, laysHome, laysNew, over, keySent, updates}
 use Rattle.writes.specs.Writes.{goneOver, updated, Over}
 

@@ -9,25 +9,20 @@ use lib.Dec.{ltb}
 use Rattle.cells.specs.Choice.{pick, both}
 use Rattle.cells.proofs.Tests.{first-picked, second-picked}
 use Rattle.rows.specs.declared.Row.the-variants.{Unreadable, NoRoom}
-use Rattle.areas.specs.declared.Area.{Area}
-use Rattle.areas.specs.declared.Counts.{Counts}
+use Rattle.areas.specs.declared.{Area.Area, Counts.Counts}
 use Rattle.areas.specs.Areas.{keyArea, dataArea, recordCells, endBy, needed}
 use Rattle.areas.specs.Flags.{flagOfZero, flagAfter}
 use Rattle.hunt.specs.declared.Spot.the-variants.{Marker}
 use Rattle.room.specs.Room.{fits}
 use Rattle.room.proofs.Laws.{fits-ends}
 use Rattle.held.specs.declared.Selection.the-variants.{On}
-use Rattle.turn.specs.declared.Ending.{Ending}
+use Rattle.turn.specs.declared.{Ending.Ending, Moving.Moving, Told.Told}
 use Rattle.turn.specs.declared.Ending.the-variants.{Normal}
 use Rattle.command.specs.Command.{areaIf, named}
 use Rattle.laying.specs.Laying.{newCounts, recorded}
-use Rattle.table.specs.declared.Write.{Write}
-use Rattle.table.specs.declared.Write.the-variants as Write
-use Rattle.turn.specs.declared.Moving.the-variants as Moving
-use Rattle.turn.specs.declared.Told.{Told}
+use Rattle.table.specs.declared.{Write.Write}
 use Rattle.turn.specs.Turn.{Piece, Moves, Takes, Turn, alone, movingOf, toldOf}
-use Rattle.command.specs.declared.Task.{Task}
-use Rattle.command.specs.declared.Job.{Job}
+use Rattle.command.specs.declared.{Task.Task, Job.Job}
 use Rattle.command.specs.Command.{task, allRecorded, Sight, sight, fails, endsAt, ends, endingOf, piece, toEnd, laysHome, recordTakes, laysNew, laysR0, laysRecord, over, keySent, updates, lays}
 use Rattle.ending.specs.Ending.{endedAt, failedAt}
 use Rattle.ending.proofs.Laws.{ended-at, ended, failed-by}

@@ -6,24 +6,18 @@ use mathlib.Core.List.{List}
 use lib.Dec.{ltb}
 use Rattle.cells.specs.Choice.{pick}
 use Rattle.cells.specs.Bytes.{part}
-use Rattle.areas.specs.declared.Counts.{Counts}
+use Rattle.areas.specs.declared.{Counts.Counts}
 use Rattle.areas.specs.Areas.{zeroFirst, keyArea, dataArea, recordCells, needed}
-use Rattle.rows.specs.declared.Row.the-variants.{Unreadable, NoRoom}
-use Rattle.hunt.specs.declared.Spot.the-variants.{Marker}
+use Rattle.rows.specs.declared.{Row.Row}
+use Rattle.hunt.specs.declared.{Spot.Spot}
 use Rattle.room.specs.Room.{fits}
 use Rattle.recording.specs.Recording.{areaWritten, Lies}
-use Rattle.held.specs.declared.Selection.the-variants.{On}
-use Rattle.turn.specs.declared.Ending.the-variants.{Normal}
+use Rattle.held.specs.declared.{Selection.Selection}
+use Rattle.turn.specs.declared.{Ending.Ending, Moving.Moving, Told.Told}
 use Rattle.command.specs.Command.{named}
 use Rattle.laying.specs.Laying.{newCounts}
-use Rattle.table.specs.declared.Names.the-variants as Names
-use Rattle.table.specs.declared.Write.{Write}
-use Rattle.table.specs.declared.Write.the-variants as Write
-use Rattle.table.specs.declared.Act.the-variants as Act
-use Rattle.turn.specs.declared.Moving.the-variants as Moving
-use Rattle.turn.specs.declared.Told.{Told}
-use Rattle.command.specs.declared.Task.{Task}
-use Rattle.command.specs.declared.Job.{Job}
+use Rattle.table.specs.declared.{Names.Names, Write.Write, Act.Act}
+use Rattle.command.specs.declared.{Task.Task, Job.Job}
 use Rattle.command.specs.Command.{task, allRecorded, endingOf, recordTakes, keySent}
 use Rattle.ending.specs.Ending.{endedAt, failedAt}
 
@@ -50,21 +44,21 @@ pub record Over (t : List ℕ) (key : Bool) (c : ℕ) (n : Counts) : Type 0 wher
 -- of a new record
 unfoldable pub newTold : Job → Task → ℕ → Counts → ℕ → List ℕ → Told
 newTold j k first n need v =
-    pick (fits first need) (endedAt j k Normal (Moving.Takes (recordTakes v n)) false) (failedAt (j .stands) (j .orders) NoRoom)
+    pick (fits first need) (endedAt j k Ending.Normal (Moving.Takes (recordTakes v n)) false) (failedAt (j .stands) (j .orders) Row.NoRoom)
 
 unfoldable pub r0Told : Job → ℕ → List ℕ → Told
 r0Told j flag v = newTold j (j .task) zeroFirst (newCounts flag v) (recordCells (newCounts flag v)) v
 
 unfoldable pub recordTold : Job → ℕ → ℕ → List ℕ → Told
 recordTold j at flag v =
-    newTold j (task (j .task .head) (at + 1) (On (Marker at)) 0) at (newCounts flag v) (needed (newCounts flag v)) v
+    newTold j (task (j .task .head) (at + 1) (Selection.On (Spot.Marker at)) 0) at (newCounts flag v) (needed (newCounts flag v)) v
 
 -- of an update, by whether it goes over byte cells
 unfoldable pub overBy : Bool → Job → Bool → Told
 overBy key j bytes =
     pick bytes
     (endedAt j (j .task) (endingOf j) (Moving.Takes (keySent key (j .counts) + j .counts .dl)) false)
-    (failedAt (j .stands) (j .orders) Unreadable)
+    (failedAt (j .stands) (j .orders) Row.Unreadable)
 
 unfoldable pub overTold : Bool → Job → List ℕ → Told
 overTold key j t = overBy key j (allRecorded t (named (j .task .place) key true (j .counts)))

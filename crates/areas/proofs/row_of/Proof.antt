@@ -4,7 +4,7 @@ use mathlib.Core.List.{[], _∷_}
 use types.Run.{OneOf, miss}
 use denote.Enum.Declared.{tagOf}
 use Rattle.rows.specs.declared.Row.the-variants.{Unreadable}
-use Rattle.areas.specs.declared.Part.{Part}
+use Rattle.areas.specs.declared.{Part.Part}
 use Rattle.areas.specs.declared.Part.the-variants.{Home, Count, Key, Data}
 use Rattle.areas.proofs.Part.{the-type}
 use Rattle.areas.specs.Areas.{rowOf}

@@ -4,7 +4,7 @@ use mathlib.Core.Bool.{false}
 use mathlib.Core.List.{[], _∷_}
 use types.Run.{OneOf, miss}
 use denote.Enum.Declared.{tagOf}
-use Rattle.turn.specs.declared.Ending.{Ending}
+use Rattle.turn.specs.declared.{Ending.Ending}
 use Rattle.turn.specs.declared.Ending.the-variants.{Normal, Satisfied, Exception, Check}
 use Rattle.turn.proofs.Ending.{the-type}
 use Rattle.turn.specs.Turn.{isCheck}

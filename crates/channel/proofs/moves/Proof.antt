@@ -4,7 +4,7 @@ use mathlib.Core.Bool.{true}
 use mathlib.Core.List.{[], _∷_}
 use types.Run.{OneOf, miss}
 use denote.Enum.Declared.{tagOf}
-use Rattle.turn.specs.declared.Moving.{Moving}
+use Rattle.turn.specs.declared.{Moving.Moving}
 use Rattle.turn.specs.declared.Moving.the-variants.{None, Gives, Takes}
 use Rattle.turn.proofs.Moving.{the-type}
 use Rattle.channel.specs.Channel.{moves}

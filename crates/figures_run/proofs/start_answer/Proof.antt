@@ -3,7 +3,7 @@ use Prim.Native.Nat.{ℕ, _<_}
 use mathlib.Core.Path.{_≡_}
 use native.Mathlib.Omega.{arith}
 use borrow.Author.Needs.{needs}
-use Rattle.host.specs.declared.Answer.{Answer}
+use Rattle.host.specs.declared.{Answer.Answer}
 use Rattle.host.specs.declared.Answer.the-variants.{ChainEnded, AllowanceUsed, BadStorage, BadPack, BadHeld, BadStart, NoChain, ChainGoing}
 use Rattle.host.specs.Host.{answerNo}
 use Rattle.figures_run.proofs.start_answer.Statement.{statement}

@@ -1,6 +1,6 @@
 -- Each arm knows what was found: it gives its number, and writes an area alone. Assumes nothing.
 use mathlib.Core.Path.{refl, sym, ap, _∙_}
-use Rattle.look.specs.declared.Look.{Look}
+use Rattle.look.specs.declared.{Look.Look}
 use Rattle.look.specs.Look.{lookNo, leaves, told}
 use Rattle.look.proofs.Laws.{looked-eq}
 use borrow.Author.Needs.{needs}

@@ -1,6 +1,6 @@
 -- Count, key and data, part behind part; a part that is not named has no bytes.
 use mathlib.Core.Path.{refl, ap}
-use Rattle.areas.specs.declared.Area.{Area}
+use Rattle.areas.specs.declared.{Area.Area}
 use Rattle.reads.proofs.Laws.{lies-by, next-fits, puts-record}
 use borrow.Author.Needs.{needs}
 use Rattle.reads.proofs.put_record.Statement.{statement}

@@ -4,7 +4,7 @@ use mathlib.Core.Path.{_≡_, refl}
 use mathlib.Core.List.{List, [], _∷_}
 use types.Run.{OneOf, miss}
 use denote.Enum.Declared.{tagOf}
-use Rattle.rows.specs.declared.Row.{Row}
+use Rattle.rows.specs.declared.{Row.Row}
 use Rattle.rows.specs.declared.Row.the-variants.{UnknownCode, BadMask, SecondMask, WrongBefore, SeekBarred, WriteBarred, BadSeek, Unreadable, UnreadableCount, NoRoom, NoMarker, SecondIndex}
 use Rattle.rows.proofs.Row.{the-type}
 use Rattle.rows.specs.Rows.{rowTakes}

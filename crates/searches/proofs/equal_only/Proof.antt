@@ -4,7 +4,7 @@ use mathlib.Core.Bool.{false}
 use mathlib.Core.List.{[], _∷_}
 use types.Run.{OneOf, miss}
 use denote.Enum.Declared.{tagOf}
-use Rattle.table.specs.declared.How.{How}
+use Rattle.table.specs.declared.{How.How}
 use Rattle.table.specs.declared.How.the-variants.{IfEqual, IfHigh, IfEqualOrHigh}
 use Rattle.table.proofs.How.{the-type}
 use Rattle.command.specs.Command.{equalOnly}

@@ -4,7 +4,7 @@ use mathlib.Core.Bool.{false}
 use mathlib.Core.List.{[], _∷_}
 use types.Run.{OneOf, miss}
 use denote.Enum.Declared.{tagOf}
-use Rattle.table.specs.declared.Aim.{Aim}
+use Rattle.table.specs.declared.{Aim.Aim}
 use Rattle.table.specs.declared.Aim.the-variants.{Stays, HomeAddress, R0, NextId, Next, NextForData, NextForKey, Selected}
 use Rattle.table.proofs.Aim.{the-type}
 use Rattle.table.specs.Table.{isHome}

@@ -4,7 +4,7 @@ use mathlib.Core.Bool.{false}
 use mathlib.Core.List.{[], _∷_}
 use types.Run.{OneOf, miss}
 use denote.Enum.Declared.{tagOf}
-use Rattle.table.specs.declared.Act.{Act}
+use Rattle.table.specs.declared.{Act.Act}
 use Rattle.table.specs.declared.Act.the-variants.{Control, Search, Read, Write}
 use Rattle.table.proofs.Act.{the-type}
 use Rattle.table.specs.Table.{looks}

@@ -4,7 +4,7 @@ use mathlib.Core.Bool.{false}
 use mathlib.Core.List.{[], _∷_}
 use types.Run.{OneOf, miss}
 use denote.Enum.Declared.{tagOf}
-use Rattle.table.specs.declared.Serves.{Serves}
+use Rattle.table.specs.declared.{Serves.Serves}
 use Rattle.table.specs.declared.Serves.the-variants.{Nobody, Data, DataAndKey}
 use Rattle.table.proofs.Serves.{the-type}
 use Rattle.table.specs.Table.{servesKey}

@@ -1,7 +1,7 @@
 -- By the row of the command before.
 use mathlib.Core.Path.{ap, _∙_}
 use Rattle.table.specs.Table.{servesKey}
-use Rattle.table.specs.declared.Rule.{Rule}
+use Rattle.table.specs.declared.{Rule.Rule}
 use borrow.Author.Needs.{needs}
 use Rattle.task.proofs.is_serving_key.Statement.{statement}
 use Rattle.task.proofs.is_serving_key.Tie as tie

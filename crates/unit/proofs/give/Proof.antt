@@ -1,6 +1,6 @@
 -- Reads give what they have read, Sense its bytes; searches and writes give nothing.
 use mathlib.Core.Path.{refl}
-use Rattle.table.specs.declared.Act.the-variants as Act
+use Rattle.table.specs.declared.{Act.Act}
 use Rattle.command.specs.Command.{acts}
 use Rattle.frame.specs.Frame.{givesBytes}
 use Rattle.unit.proofs.Laws.{given-by, none-given}

@@ -5,9 +5,7 @@ use mathlib.Core.Bool.{false}
 use mathlib.Core.List.{List, [], _∷_}
 use types.Run.{OneOf, miss}
 use denote.Enum.Declared.{tagOf}
-use Rattle.table.specs.declared.Control.{Control}
-use Rattle.table.specs.declared.Control.the-variants as Control
-use Rattle.table.specs.declared.Act.the-variants as Act
+use Rattle.table.specs.declared.{Control.Control, Act.Act}
 use Rattle.table.proofs.Control.{the-type}
 use Rattle.command.specs.Command.{sight, acts}
 use Rattle.frame.specs.Frame.{givesBytes}
