@@ -49,8 +49,8 @@ abbrev pub homeFlag : List ℕ → ℕ
 homeFlag t = getD (areaBytes t homeArea) 0 0
 
 -- R0's count area begins right after the home address
-abbrev pub zeroFirst : ℕ
-zeroFirst = homeBytes + checkBytes
+abbrev pub r0First : ℕ
+r0First = homeBytes + checkBytes
 
 -- ---- count area: flag, CC (2), HH (2), R, KL, DL (2)
 

@@ -10,8 +10,8 @@ abbrev pub copied : ℕ → ℕ
 copied f = f % 4
 
 -- R0's: bit 0 is 0; bits 6 and 7 copy the home address's
-unfoldable pub flagOfZero : ℕ → ℕ
-flagOfZero home = copied home
+unfoldable pub flagOfR0 : ℕ → ℕ
+flagOfR0 home = copied home
 
 -- a later record's: bit 0 is opposite to the record before, bits 6 and 7 copy that record's
 unfoldable pub flagAfter : ℕ → ℕ

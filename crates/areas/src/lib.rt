@@ -5,7 +5,7 @@ ghost use Prim.Native.Nat.{_+_, _*_, _<_};
 ghost use lib.ListN.{getD};
 ghost use Rattle.cells.specs.Cells.{byteOf};
 ghost use Rattle.areas.specs.Areas.{area, readable, rowOf, homeArea, countArea, countsAt, readCount, keyCells, dataBytes, keyArea, dataArea, recordCells, endBy, needed};
-ghost use Rattle.areas.specs.Flags.{flagOfZero, flagAfter};
+ghost use Rattle.areas.specs.Flags.{flagOfR0, flagAfter};
 
 // What an area holds.
 pub enum Part {
@@ -160,8 +160,8 @@ pub fn cells_needed(n: Counts) -> u32
 }
 
 // The flag byte of a new R0, by the home address's.
-pub fn flag_of_zero(home: u8) -> u8
-    ensures { λ r. ⌜ r ≡ flagOfZero home ⌝ }
+pub fn flag_of_r0(home: u8) -> u8
+    ensures { λ r. ⌜ r ≡ flagOfR0 home ⌝ }
 {
     home % 4
 }

@@ -16,7 +16,7 @@ use Rattle.held.proofs.Inverse.{says}
 use Rattle.chain.specs.Step.{world}
 use Rattle.host.specs.declared.{Answer.Answer}
 use Rattle.host.specs.Host.{Hears, hears, answerNo, wrongHeld, starts, goes}
-use Rattle.box_export.specs.Calls.{call, told, startKept, startCall, goKept, goCall}
+use Rattle.box_export.specs.Calls.{call, callOf, startKept, startCall, goKept, goCall}
 
 call-eq : {a b : ℕ} {v w s t c d : List ℕ} → a ≡ b → v ≡ w → s ≡ t → c ≡ d → call a v s c ≡ call b w t d
 call-eq p q r u = λ i. record { answer = p i; held = q i; storage = r i; cells = u i }
@@ -32,8 +32,8 @@ back v w h k e p = p ∙ ap (λ (b : Bool). pick b (encoded k) v) (eq-eqb (lengt
 
 -- what is heard, put back in bytes
 telling : (x : Hears) (a : Answer) (n : ℕ) (k : Held) (v w s c : List ℕ) (h : Held) → hears a (world k s c) ≡ x → n ≡ answerNo a → kept v ≡ Holds h
-    → w ≡ pick (eqb (length v) heldBytes) (encoded k) v → call n w s c ≡ told x
-unfolding told
+    → w ≡ pick (eqb (length v) heldBytes) (encoded k) v → call n w s c ≡ callOf x
+unfolding callOf
 telling x a n k v w s c h p q e r =
     call-eq (q ∙ ap (λ (y : Hears). answerNo (y .answer)) p) (back v w h k e r ∙ ap (λ (y : Hears). encoded (y .left .held)) p)
     (ap (λ (y : Hears). y .left .storage) p) (ap (λ (y : Hears). y .left .cells) p)

@@ -22,19 +22,19 @@ abbrev pub shape : ℕ → ℕ → Shape
 shape c h = record { cylinders = c; heads = h }
 
 -- what the host hears, in bytes
-unfoldable pub told : Hears → Call
-told x = call (answerNo (x .answer)) (encoded (x .left .held)) (x .left .storage) (x .left .cells)
+unfoldable pub callOf : Hears → Call
+callOf x = call (answerNo (x .answer)) (encoded (x .left .held)) (x .left .storage) (x .left .cells)
 
 -- bytes that encode no held state are refused in refusal 4's place; all is left unchanged
 unfoldable pub startKept : Shape → List ℕ → List ℕ → List ℕ → Kept → Call
-startKept g v s c (Kept.Holds h) = told (starts g (world h s c))
+startKept g v s c (Kept.Holds h) = callOf (starts g (world h s c))
 startKept g v s c Kept.Wrong = call (answerNo (wrongHeld g (length s) (length c))) v s c
 
 unfoldable pub startCall : Shape → List ℕ → List ℕ → List ℕ → Call
 startCall g v s c = startKept g v s c (kept v)
 
 unfoldable pub goKept : Shape → ℕ → List ℕ → List ℕ → List ℕ → Kept → Call
-goKept g n v s c (Kept.Holds h) = told (goes g n (world h s c))
+goKept g n v s c (Kept.Holds h) = callOf (goes g n (world h s c))
 goKept g n v s c Kept.Wrong = call (answerNo (wrongHeld g (length s) (length c))) v s c
 
 unfoldable pub goCall : Shape → ℕ → List ℕ → List ℕ → List ℕ → Call

@@ -15,27 +15,27 @@ use Rattle.pack.specs.Tracks as Tracks
 use Rattle.command.specs.Command.{mostTally, SelectedOn}
 use Rattle.command.proofs.Plans.{Leaves}
 use Rattle.table.specs.Table.{ruleOf}
-use Rattle.held.specs.declared.{Selection.Selection, Stands.Stands, Orders.Orders, Channel.Channel}
+use Rattle.held.specs.declared.{Selection.Selection, Position.Position, Orders.Orders, Channel.Channel}
 use Rattle.held.specs.declared.Selection.the-variants.{Nothing, On}
-use Rattle.turn.specs.Turn.{ordered}
-use Rattle.chain.specs.Legal.{keys, standsFit, channelFits, selectionFits, ordersFit}
+use Rattle.turn.specs.Turn.{ordersOf}
+use Rattle.chain.specs.Legal.{keys, positionFits, channelFits, selectionFits, ordersFit}
 
 -- ---- where the head stands
 
-module _ (g : Shape) (s : Stands) where
-  pub stands-on : standsFit g s ≡ true → Tracks.On g (s .cylinder) (s .head)
-  unfolding standsFit
+module _ (g : Shape) (s : Position) where
+  pub stands-on : positionFits g s ≡ true → Tracks.On g (s .cylinder) (s .head)
+  unfolding positionFits
   stands-on e =
       let f = second-of (cylinderOn g (s .cylinder)) _ e in
       record { cylinder = ltb-true _ _ (first-of (cylinderOn g (s .cylinder)) _ e); head = ltb-true _ _ (first-of (headOn g (s .head)) _ f) }
 
-  pub place-in : standsFit g s ≡ true → s .place ≤ trackCells
-  unfolding standsFit
+  pub place-in : positionFits g s ≡ true → s .place ≤ trackCells
+  unfolding positionFits
   place-in e = leb-true _ _ (second-of (headOn g (s .head)) _ (second-of (cylinderOn g (s .cylinder)) _ e))
 
-  pub stands-fit : Tracks.On g (s .cylinder) (s .head) → s .place ≤ trackCells → standsFit g s ≡ true
-  unfolding standsFit
-  stands-fit on p = both-of (lt-ltb _ _ (on .cylinder)) (both-of (lt-ltb _ _ (on .head)) (le-leb _ _ p))
+  pub position-fits : Tracks.On g (s .cylinder) (s .head) → s .place ≤ trackCells → positionFits g s ≡ true
+  unfolding positionFits
+  position-fits on p = both-of (lt-ltb _ _ (on .cylinder)) (both-of (lt-ltb _ _ (on .head)) (le-leb _ _ p))
 
 -- ---- the channel's part
 
@@ -79,6 +79,6 @@ leaves-fit m o Nothing e = ap not e
 leaves-fit m o (On spot) e = e
 
 pub ordered-fit : (m : List Bool) (mask : ℕ) (set : Bool) (code : ℕ) (whole : Bool) (tally : ℕ) (x : Selection)
-    → legal mask ≡ true → tally ≤ mostTally → Leaves m (ruleOf code .selects) x → ordersFit m (ordered mask set code whole tally x) ≡ true
-unfolding ordersFit ordered
-ordered-fit m mask set code whole tally x l h k = both-of l (both-of (le-leb _ _ h) (leaves-fit m (ordered mask set code whole tally x) x k))
+    → legal mask ≡ true → tally ≤ mostTally → Leaves m (ruleOf code .selects) x → ordersFit m (ordersOf mask set code whole tally x) ≡ true
+unfolding ordersFit ordersOf
+ordered-fit m mask set code whole tally x l h k = both-of l (both-of (le-leb _ _ h) (leaves-fit m (ordersOf mask set code whole tally x) x k))

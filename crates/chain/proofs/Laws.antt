@@ -16,12 +16,12 @@ use Rattle.pack.specs.Tracks.{startOf, trackAt, withTrack}
 use Rattle.pack.proofs.Laws.{lent-is, lent-back}
 use Rattle.held.specs.declared.{Held.Held}
 use Rattle.held.specs.Held.{rested}
-use Rattle.turn.specs.Turn.{toldOf, laid}
-use Rattle.frame.proofs.Here.{command-here}
+use Rattle.turn.specs.Turn.{reportOf, lay}
+use Rattle.claim_frame.proofs.Here.{command-here}
 use Rattle.channel.specs.Channel.{fetched, heldAfter, storageAfter, Served, served, servedBy, turnOn, serves}
-use Rattle.channel.specs.Inside.{Serves}
+use Rattle.channel.specs.Inside.{CanObey}
 use Rattle.chain.specs.Legal.{Legal}
-use Rattle.chain.specs.Step.{World, world, under, selected, next, tracksOf, stops, turnOf, settled, obeyed, takes, step}
+use Rattle.chain.specs.Step.{World, world, under, trackUnder, next, tracksOf, stops, turnOf, settled, obeyed, stepBy, step}
 use Rattle.chain.proofs.Fits.{key-in, selected-on}
 use Rattle.chain.proofs.Legal.{track-whole, turn-left, put-back}
 
@@ -30,21 +30,21 @@ world-eq p q r = λ i. record { held = p i; storage = q i; cells = r i }
 
 -- ---- a step
 
-pub stopped : (h r : Held) (cause : Cause) (x : Status) (s u c : List ℕ) → r ≡ rested (h .stands) → x ≡ programCheck (h .channel .key) (h .channel .next) cause
+pub stopped : (h r : Held) (cause : Cause) (x : Status) (s u c : List ℕ) → r ≡ rested (h .position) → x ≡ programCheck (h .channel .key) (h .channel .next) cause
     → u ≡ stored s x → world r u c ≡ stops (world h s c) cause
 unfolding stops
 stopped h r cause x s u c p e q = world-eq p (q ∙ ap (stored s) e) refl
 
-pub taken : (g : Shape) (w v : World) (x y : Tested) → x ≡ tested (w .storage) (w .held .channel .next) (w .held .channel .«after_tic») → x ≡ y → v ≡ takes g w y → v ≡ step g w
+pub taken : (g : Shape) (w v : World) (x y : Tested) → x ≡ tested (w .storage) (w .held .channel .next) (w .held .channel .«after_tic») → x ≡ y → v ≡ stepBy g w y → v ≡ step g w
 unfolding step next
-taken g w v x y p q r = r ∙ ap (takes g w) (sym q ∙ p)
+taken g w v x y p q r = r ∙ ap (stepBy g w) (sym q ∙ p)
 
 pub word-reaches : (s : List ℕ) (at : ℕ) (tic : Bool) (x : Tested) (w : Word) → x ≡ tested s at tic → x ≡ Obey w → Reaches s w
 word-reaches s at tic x w p q = record { area = subst (TestedIn s) (sym p ∙ q) (tested-in s at tic) }
 
 -- ---- a command on the track under the head
 
-under-is : (g : Shape) (h : Held) → startOf g (h .stands .cylinder) (h .stands .head) ≡ under g h
+under-is : (g : Shape) (h : Held) → startOf g (h .position .cylinder) (h .position .head) ≡ under g h
 unfolding under
 under-is g h = refl
 
@@ -53,13 +53,13 @@ module _ (g : Shape) (h : Held) (w : Word) (s cells : List ℕ) (L : Legal g (wo
   W = world h s cells
 
   -- the cells that are lent are the track under the head
-  lent-there : (a : ℕ) → a ≡ startOf g (h .stands .cylinder) (h .stands .head) → take (a + 4096 - a) (drop a cells) ≡ selected g W
-  unfolding selected under
+  lent-there : (a : ℕ) → a ≡ startOf g (h .position .cylinder) (h .position .head) → take (a + 4096 - a) (drop a cells) ≡ trackUnder g W
+  unfolding trackUnder under
   lent-there a e = lent-is cells a ∙ ap (trackAt cells) e
 
-  pub lent-serves : (a : ℕ) → a ≡ startOf g (h .stands .cylinder) (h .stands .head) → Reaches s w → Serves h w s (take (a + 4096 - a) (drop a cells))
+  pub lent-serves : (a : ℕ) → a ≡ startOf g (h .position .cylinder) (h .position .head) → Reaches s w → CanObey h w s (take (a + 4096 - a) (drop a cells))
   lent-serves a e r =
-      subst (Serves h w s) (sym (lent-there a e))
+      subst (CanObey h w s) (sym (lent-there a e))
       (record {
         room = omega (arith, L .room);
         key = key-in (h .channel) (L .channeled);
@@ -69,16 +69,16 @@ module _ (g : Shape) (h : Held) (w : Word) (s cells : List ℕ) (L : Legal g (wo
       })
 
   -- a command works on that track alone
-  turn-there : turnOn g h w s (selected g W) ≡ turnOf g W w
-  unfolding turnOn turnOf selected under tracksOf
-  turn-there = sym (command-here g (tracksOf g cells (h .stands .cylinder)) (h .stands) (h .orders) (w .code) (fetched s w))
+  turn-there : turnOn g h w s (trackUnder g W) ≡ turnOf g W w
+  unfolding turnOn turnOf trackUnder under tracksOf
+  turn-there = sym (command-here g (tracksOf g cells (h .position .cylinder)) (h .position) (h .orders) (w .code) (fetched s w))
 
-  served-there : serves g h w s (selected g W)
-      ≡ served (heldAfter (h .channel) w (toldOf (turnOf g W w))) (storageAfter (h .channel) w (turnOf g W w) s) (laid (turnOf g W w .lays) (selected g W))
+  served-there : serves g h w s (trackUnder g W)
+      ≡ served (heldAfter (h .channel) w (reportOf (turnOf g W w))) (storageAfter (h .channel) w (turnOf g W w) s) (lay (turnOf g W w .lays) (trackUnder g W))
   unfolding serves servedBy
-  served-there = ap (servedBy h w s (selected g W)) turn-there
+  served-there = ap (servedBy h w s (trackUnder g W)) turn-there
 
-  pub commanded : (a : ℕ) (r : Held) (s′ t′ : List ℕ) → a ≡ startOf g (h .stands .cylinder) (h .stands .head) → a + 4096 ≤ length cells → Reaches s w
+  pub commanded : (a : ℕ) (r : Held) (s′ t′ : List ℕ) → a ≡ startOf g (h .position .cylinder) (h .position .head) → a + 4096 ≤ length cells → Reaches s w
       → served r s′ t′ ≡ serves g h w s (take (a + 4096 - a) (drop a cells)) → length t′ ≡ length (take (a + 4096 - a) (drop a cells))
       → world r s′ (putMid a (a + 4096 - a) cells t′) ≡ obeyed g W w
   unfolding obeyed settled

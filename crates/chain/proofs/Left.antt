@@ -17,21 +17,21 @@ use Rattle.mask.specs.declared.{Seeking.Seeking}
 use Rattle.mask.specs.Mask.{legal}
 use Rattle.house_check.specs.Area as Area
 use Rattle.areas.specs.declared.{Counts.Counts}
-use Rattle.areas.specs.Areas.{homeBytes, zeroFirst, keyArea, dataArea, recordCells, endBy, needed}
+use Rattle.areas.specs.Areas.{homeBytes, r0First, keyArea, dataArea, recordCells, endBy, needed}
 use Rattle.hunt.specs.declared.{Spot.Spot}
-use Rattle.hunt.specs.Hunt.{Whole, spotFits, spaceRecord}
+use Rattle.hunt.specs.Hunt.{WholeTrack, spotFits, spaceRecord}
 use Rattle.pack.specs.declared.{Head.Head, Shape.Shape, Sought.Sought}
 use Rattle.hunt.proofs.Inside.{space-in}
 use Rattle.room.specs.Room.{fits}
 use Rattle.room.proofs.Laws.{fits-ends}
 use Rattle.pack.proofs.Seeks.{SoughtOn, seek-to-on, seek-head-on}
-use Rattle.held.specs.declared.{Selection.Selection, Stands.Stands, Orders.Orders}
+use Rattle.held.specs.declared.{Selection.Selection, Position.Position, Orders.Orders}
 use Rattle.held.specs.declared.Selection.the-variants.{Nothing, On}
 use Rattle.turn.specs.declared.{Ending.Ending}
 use Rattle.turn.specs.declared.Ending.the-variants.{Normal}
-use Rattle.turn.specs.Turn.{standing, sensing, sought, after}
-use Rattle.laying.specs.Laying.{newCounts, newRecord, formatted}
-use Rattle.laying.proofs.Laws.{length-area, length-new, formatted-inside}
+use Rattle.turn.specs.Turn.{positionAt, withSense, positionSought, after}
+use Rattle.format.specs.Format.{newCounts, newRecord, formatted}
+use Rattle.format.proofs.Laws.{length-area, length-new, formatted-inside}
 use Rattle.command.specs.Command.{mostTally}
 use Rattle.command.specs.Command.{named}
 use Rattle.command.specs.declared.{Got.Got, Task.Task, Job.Job, Plan.Plan}
@@ -39,13 +39,13 @@ use Rattle.command.specs.declared.Got.the-variants.{Sees, Fails}
 use Rattle.table.specs.declared.{Control.Control, Write.Write, Act.Act, Rule.Rule}
 use Rattle.table.specs.Table.{ruleOf, isHome, controls, searches, reads, writes}
 use Rattle.table.proofs.Laws.{every, each, of-every}
-use Rattle.turn.specs.Turn.{Tracks, Lies, Piece, Moves, Takes, Turn, laid, checks}
+use Rattle.turn.specs.Turn.{Tracks, TrackArea, Piece, Moves, Takes, Turn, lay, checkTurn}
 use Rattle.command.specs.declared.Plan.the-variants.{Refuses, Works}
-use Rattle.command.specs.Command.{Marks, marksOf, plans, Sight, sight, allRecorded, goesOver, writesOver, fails, standsAfter, ordersAfter, endsAt, ends, endingOf, rests, senses, soughtBy, addressed, arrives, seeks, masked, masks, spacedPlace, spaces, comparesWith, compares, gives, piece, toEnd, laysHome, recordTakes, laysNew, laysR0, laysRecord, over, keySent, updates, does, lays, acts, jobOf, hasRead, readyBy, turnBy, obeys, command, task}
+use Rattle.command.specs.Command.{Marks, marksOf, planOf, Sight, sight, allRecorded, goesOver, writesOver, failTurn, positionAfter, ordersAfter, endTurnAt, endTurn, endingOf, noOpTurn, senseTurn, soughtBy, addressed, arrivalTurn, seekTurn, maskedTurn, maskTurn, spacedPlace, spaceTurn, fieldTurn, searchTurn, readTurn, piece, toEnd, homeTurn, recordTakes, newTurn, r0Turn, recordTurn, overPiece, keySent, updateTurn, controlTurn, writeTurn, actTurn, jobOf, hasRead, readyBy, readyTurn, ruleTurn, command, task}
 use Rattle.command.proofs.Plans.{selectsOne, not-true, isR0, Leaves, NoMarker, TaskOn, PlanOn, PlanFree, plan-on, none-free, r0-free}
 use Rattle.command.proofs.Pieces.{PiecesOn, length-to-end, format-is, update-on}
-use Rattle.chain.specs.Legal.{standsFit, ordersFit}
-use Rattle.chain.proofs.Fits.{stands-on, place-in, stands-fit, mask-legal, selected-on, ordered-fit}
+use Rattle.chain.specs.Legal.{positionFits, ordersFit}
+use Rattle.chain.proofs.Fits.{stands-on, place-in, position-fits, mask-legal, selected-on, ordered-fit}
 
 -- ---- what the table's rows have in common
 
@@ -95,44 +95,44 @@ any-plan : (p : Plan) → OnPlan (λ y. Unit {0}) p
 any-plan (Refuses row) = tt
 any-plan (Works k) = tt
 
-write-free : (r : Rule) (m : Marks) (s : Stands) (o : Orders) (w : Write) → steadyWrite w r ≡ true → OnPlan (WriteFree w) (plans r m s o)
+write-free : (r : Rule) (m : Marks) (s : Position) (o : Orders) (w : Write) → steadyWrite w r ≡ true → OnPlan (WriteFree w) (planOf r m s o)
 unfolding steadyWrite
-write-free r m s o Write.HomeAddress e = free-plan (plans r m s o) (none-free r m s o e)
-write-free r m s o Write.R0 e = free-plan (plans r m s o) (r0-free r m s o e)
-write-free r m s o Write.CountKeyData e = any-plan (plans r m s o)
-write-free r m s o (Write.Update key) e = free-plan (plans r m s o) (none-free r m s o e)
+write-free r m s o Write.HomeAddress e = free-plan (planOf r m s o) (none-free r m s o e)
+write-free r m s o Write.R0 e = free-plan (planOf r m s o) (r0-free r m s o e)
+write-free r m s o Write.CountKeyData e = any-plan (planOf r m s o)
+write-free r m s o (Write.Update key) e = free-plan (planOf r m s o) (none-free r m s o e)
 
-act-free : (r : Rule) (m : Marks) (s : Stands) (o : Orders) (a : Act) → steady a r ≡ true → OnPlan (ActFree a) (plans r m s o)
+act-free : (r : Rule) (m : Marks) (s : Position) (o : Orders) (a : Act) → steady a r ≡ true → OnPlan (ActFree a) (planOf r m s o)
 unfolding steady
-act-free r m s o (Act.Control a) e = free-plan (plans r m s o) (none-free r m s o e)
-act-free r m s o (Act.Search h) e = any-plan (plans r m s o)
-act-free r m s o (Act.Read c) e = any-plan (plans r m s o)
+act-free r m s o (Act.Control a) e = free-plan (planOf r m s o) (none-free r m s o e)
+act-free r m s o (Act.Search h) e = any-plan (planOf r m s o)
+act-free r m s o (Act.Read c) e = any-plan (planOf r m s o)
 act-free r m s o (Act.Write w) e = write-free r m s o w e
 
 -- ---- what is left
 
 -- orders that fit any track, or the track that is left, where the head has not moved
-pub data Chosen (s s′ : Stands) (o : Orders) (t : List ℕ) : Type 0 where
+pub data Chosen (s s′ : Position) (o : Orders) (t : List ℕ) : Type 0 where
   anywhere : ((m : List Bool) → ordersFit m o ≡ true) → Chosen s s′ o t
   here : s′ .cylinder ≡ s .cylinder → s′ .head ≡ s .head → ordersFit (marks t) o ≡ true → Chosen s s′ o t
 
-pub record Left (g : Shape) (s : Stands) (t : List ℕ) (x : Turn) : Type 0 where
-  pub standing : standsFit g (x .stands) ≡ true
+pub record Left (g : Shape) (s : Position) (t : List ℕ) (x : Turn) : Type 0 where
+  pub standing : positionFits g (x .position) ≡ true
   pub pieces : PiecesOn (s .head) (x .lays)
-  pub chosen : Chosen s (x .stands) (x .orders) (laid (x .lays) t)
+  pub chosen : Chosen s (x .position) (x .orders) (lay (x .lays) t)
 
-module _ (g : Shape) (tr : Tracks) (s : Stands) (o : Orders) (code : ℕ) (v : List ℕ)
-    (ok : standsFit g s ≡ true) (wh : Whole (tr (s .head))) (fit : ordersFit (marks (tr (s .head))) o ≡ true) where
+module _ (g : Shape) (tr : Tracks) (s : Position) (o : Orders) (code : ℕ) (v : List ℕ)
+    (ok : positionFits g s ≡ true) (wh : WholeTrack (tr (s .head))) (fit : ordersFit (marks (tr (s .head))) o ≡ true) where
   abbrev t : List ℕ
   t = tr (s .head)
 
   abbrev Fine : Turn → Type 0
   Fine x = Left g s t x
 
-  checks-left : (l : List Lies) (row : Row) → Fine (checks s o l row)
-  unfolding checks sensing standing laid
+  checks-left : (l : List TrackArea) (row : Row) → Fine (checkTurn s o l row)
+  unfolding checkTurn withSense positionAt lay
   checks-left l row = record {
-    standing = stands-fit g _ (stands-on g s ok) (place-in g s ok);
+    standing = position-fits g _ (stands-on g s ok) (place-in g s ok);
     pieces = tt;
     chosen = here refl refl fit;
   }
@@ -144,25 +144,25 @@ module _ (g : Shape) (tr : Tracks) (s : Stands) (o : Orders) (code : ℕ) (v : L
     abbrev x : Sight
     x = sight tr j v
 
-    fails-left : (row : Row) → Fine (fails x row)
-    unfolding fails sight
+    fails-left : (row : Row) → Fine (failTurn x row)
+    unfolding failTurn sight
     fails-left row = checks-left _ row
 
     -- at a place of the track, what is selected fits the track that is left
     ends-left : (k′ : Task) (e : Ending) (m : Moves) (l : List Piece) (whole : Bool) → k′ .head ≡ s .head → k′ .place ≤ trackCells → k′ .tally ≤ mostTally
-        → PiecesOn (s .head) l → Leaves (marks (laid l t)) (r .selects) (k′ .selection) → Fine (endsAt x k′ e m l whole)
-    unfolding endsAt standsAfter standing ordersAfter after sight
+        → PiecesOn (s .head) l → Leaves (marks (lay l t)) (r .selects) (k′ .selection) → Fine (endTurnAt x k′ e m l whole)
+    unfolding endTurnAt positionAfter positionAt ordersAfter after sight
     ends-left k′ e m l whole h p q on-track sel =
         let there = stands-on g s ok in
         record {
-          standing = stands-fit g _ (record { cylinder = there .cylinder; head = subst (λ z. z .0 < g .heads) (sym h) (there .head) }) p;
+          standing = position-fits g _ (record { cylinder = there .cylinder; head = subst (λ z. z .0 < g .heads) (sym h) (there .head) }) p;
           pieces = on-track;
           chosen = here refl h (ordered-fit _ (o .mask) (o .«mask_set») code whole (k′ .tally) (k′ .selection) (mask-legal _ o fit) q
-              (subst (λ (b : Bool). Leaves (marks (laid l t)) b (k′ .selection)) same sel));
+              (subst (λ (b : Bool). Leaves (marks (lay l t)) b (k′ .selection)) same sel));
         }
 
-    rests-left : (e : Ending) (m : Moves) (whole : Bool) → Fine (ends x e m [] whole)
-    unfolding ends sight laid
+    rests-left : (e : Ending) (m : Moves) (whole : Bool) → Fine (endTurn x e m [] whole)
+    unfolding endTurn sight lay
     rests-left e m whole = ends-left k e m [] whole (on .here) (on .place) (on .tally) tt (on .leaves)
 
     -- ---- control
@@ -171,13 +171,13 @@ module _ (g : Shape) (tr : Tracks) (s : Stands) (o : Orders) (code : ℕ) (v : L
     free-leaves : (m : List Bool) (y : Selection) → NoMarker y → Leaves (marks t) (r .selects) y → Leaves m (r .selects) y
     unfolding spotFits
     free-leaves m Nothing f h = h
-    free-leaves m (On Spot.Zero) f h = refl
+    free-leaves m (On Spot.R0) f h = refl
     free-leaves m (On (Spot.Marker p)) f h = absurd f
 
-    arrives-left : (a : Sought) → SoughtOn g a → NoMarker (k .selection) → Fine (arrives x a)
-    unfolding arrives sought standing ordersAfter after sight
-    arrives-left (Sought.Stands c h) there free = record {
-      standing = stands-fit g _ there (omega arith);
+    arrives-left : (a : Sought) → SoughtOn g a → NoMarker (k .selection) → Fine (arrivalTurn x a)
+    unfolding arrivalTurn positionSought positionAt ordersAfter after sight
+    arrives-left (Sought.To c h) there free = record {
+      standing = position-fits g _ there (omega arith);
       pieces = tt;
       chosen = anywhere (λ m. ordered-fit m (o .mask) (o .«mask_set») code false (k .tally) (k .selection) (mask-legal _ o fit) (on .tally)
           (subst (λ (b : Bool). Leaves m b (k .selection)) same (free-leaves m (k .selection) free (on .leaves))));
@@ -194,30 +194,30 @@ module _ (g : Shape) (tr : Tracks) (s : Stands) (o : Orders) (code : ℕ) (v : L
     unfolding addressed
     addressed-on q = pick-all (SoughtOn g) (ltb (length v) 6) {x = Sought.Fails Row.BadSeek} tt (sought-on q)
 
-    masks-left : (byte : ℕ) → r .selects ≡ false → Fine (masks x byte)
-    unfolding masks masked standsAfter standing sight
+    masks-left : (byte : ℕ) → r .selects ≡ false → Fine (maskTurn x byte)
+    unfolding maskTurn maskedTurn positionAfter positionAt sight
     masks-left byte none = go (legal byte) refl
       where
-        go : (b : Bool) → legal byte ≡ b → Fine (pick b (pick (o .«mask_set») (fails x Row.SecondMask) (masked x byte)) (fails x Row.BadMask))
+        go : (b : Bool) → legal byte ≡ b → Fine (pick b (pick (o .«mask_set») (failTurn x Row.SecondMask) (maskedTurn x byte)) (failTurn x Row.BadMask))
         go true e =
             let there = stands-on g s ok in
             pick-all Fine (o .«mask_set») (fails-left Row.SecondMask)
             (record {
-              standing = stands-fit g _ (record { cylinder = there .cylinder; head = subst (λ z. z .0 < g .heads) (sym (on .here)) (there .head) }) (on .place);
+              standing = position-fits g _ (record { cylinder = there .cylinder; head = subst (λ z. z .0 < g .heads) (sym (on .here)) (there .head) }) (on .place);
               pieces = tt;
               chosen = anywhere (λ m. ordered-fit m byte true code false 0 Nothing e (omega arith) (sym same ∙ none));
             })
         go false e = fails-left Row.BadMask
 
-    spaces-left : r .selects ≡ false → Fine (spaces x)
-    unfolding spaces spacedPlace sight laid
+    spaces-left : r .selects ≡ false → Fine (spaceTurn x)
+    unfolding spaceTurn spacedPlace sight lay
     spaces-left none =
         let b : Bool = isHome (ruleOf (o .before) .aim) in
         ends-left _ Normal _ [] false (on .here)
         (subst (λ (h : Head). spaceRecord (marks (tr h)) (s .place) b ≤ trackCells) (sym (on .here)) (space-in t (s .place) b wh)) (omega arith) tt none
 
-    does-left : (a : Control) → r .selects ≡ false → NoMarker (k .selection) → Fine (does g a x)
-    unfolding does rests senses seeks sight
+    does-left : (a : Control) → r .selects ≡ false → NoMarker (k .selection) → Fine (controlTurn g a x)
+    unfolding controlTurn noOpTurn senseTurn seekTurn sight
     does-left Control.Unknown none free = fails-left Row.UnknownCode
     does-left Control.NoOp none free = rests-left Normal _ false
     does-left Control.Sense none free = rests-left Normal _ false
@@ -227,21 +227,21 @@ module _ (g : Shape) (tr : Tracks) (s : Stands) (o : Orders) (code : ℕ) (v : L
 
     -- ---- writes
 
-    home-left : NoMarker (k .selection) → Fine (laysHome x)
-    unfolding laysHome ends piece sight
+    home-left : NoMarker (k .selection) → Fine (homeTurn x)
+    unfolding homeTurn endTurn piece sight
     home-left free =
         ends-left k Normal _ _ false (on .here) (on .place) (on .tally)
-        (on .here, length-to-end 0 (Area.laid (padded homeBytes v)) (omega (arith, length-area homeBytes v)), tt) (free-leaves _ (k .selection) free (on .leaves))
+        (on .here, length-to-end 0 (Area.cellsWithCheck (padded homeBytes v)) (omega (arith, length-area homeBytes v)), tt) (free-leaves _ (k .selection) free (on .leaves))
 
     new-left : (k′ : Task) (first : ℕ) (c : Counts) (need : ℕ) (w : List ℕ) → k′ .head ≡ s .head → k′ .tally ≤ mostTally → length w ≡ need
         → (fits first need ≡ true → k′ .place ≤ trackCells)
-        → (fits first need ≡ true → Leaves (marks (laid (piece x first (toEnd first w) ∷ []) t)) (r .selects) (k′ .selection))
-        → Fine (laysNew x k′ first c need w)
-    unfolding laysNew piece sight
+        → (fits first need ≡ true → Leaves (marks (lay (piece x first (toEnd first w) ∷ []) t)) (r .selects) (k′ .selection))
+        → Fine (newTurn x k′ first c need w)
+    unfolding newTurn piece sight
     new-left k′ first c need w h q long place leaves = go (fits first need) refl
       where
         go : (b : Bool) → fits first need ≡ b
-            → Fine (pick b (endsAt x k′ Normal (Takes (recordTakes (x .sent) c)) (piece x first (toEnd first w) ∷ []) false) (fails x Row.NoRoom))
+            → Fine (pick b (endTurnAt x k′ Normal (Takes (recordTakes (x .sent) c)) (piece x first (toEnd first w) ∷ []) false) (failTurn x Row.NoRoom))
         go true e =
             ends-left k′ Normal _ _ false h (place e) q (pieces-on (omega (arith, long, fits-ends first need e))) (leaves e)
           where
@@ -249,16 +249,16 @@ module _ (g : Shape) (tr : Tracks) (s : Stands) (o : Orders) (code : ℕ) (v : L
             pieces-on inside = (on .here, length-to-end first w inside, tt)
         go false e = fails-left Row.NoRoom
 
-    r0-left : NoMarker (k .selection) → (flag : ℕ) → Fine (laysR0 x flag)
-    unfolding laysR0 sight
+    r0-left : NoMarker (k .selection) → (flag : ℕ) → Fine (r0Turn x flag)
+    unfolding r0Turn sight
     r0-left free flag =
-        new-left k zeroFirst (newCounts flag v) (recordCells (newCounts flag v)) (newRecord flag v) (on .here) (on .tally) (length-new flag v) (λ e. on .place)
+        new-left k r0First (newCounts flag v) (recordCells (newCounts flag v)) (newRecord flag v) (on .here) (on .tally) (length-new flag v) (λ e. on .place)
         (λ e. free-leaves _ (k .selection) free (on .leaves))
 
     -- the new marker is one of the track's
     new-mark : (at : ℕ) (w : List ℕ) → 7 ≤ at → at + suc (length w) ≤ trackCells
-        → getD (marks (laid (piece x at (toEnd at (marker ∷ w)) ∷ []) t)) at false ≡ true
-    unfolding laid piece sight
+        → getD (marks (lay (piece x at (toEnd at (marker ∷ w)) ∷ []) t)) at false ≡ true
+    unfolding lay piece sight
     new-mark at w h inside =
         let same-track = format-is t at (marker ∷ w) (wh .long) inside in
         ap (λ (z : List ℕ). getD (marks z) at false) same-track
@@ -266,21 +266,21 @@ module _ (g : Shape) (tr : Tracks) (s : Stands) (o : Orders) (code : ℕ) (v : L
         ∙ mark-here (formatted t at (marker ∷ w)) at h
         (ap (λ (i : ℕ). getD (formatted t at (marker ∷ w)) i 0) (sym (add-zero at)) ∙ formatted-inside t at (marker ∷ w) (omega (arith, wh .long)) 0 (omega arith))
 
-    record-left : (at flag : ℕ) → 7 ≤ at → Fine (laysRecord x at flag)
-    unfolding laysRecord needed sight spotFits
+    record-left : (at flag : ℕ) → 7 ≤ at → Fine (recordTurn x at flag)
+    unfolding recordTurn needed sight spotFits
     record-left at flag h =
         new-left (task (k .head) (at + 1) (On (Spot.Marker at)) 0) at (newCounts flag v) (1 + recordCells (newCounts flag v)) (marker ∷ newRecord flag v)
         (on .here) (omega arith) (ap suc (length-new flag v) ∙ omega arith) (λ e. omega (arith, fits-ends at _ e))
         (λ e. new-mark at (newRecord flag v) h (omega (arith, length-new flag v, fits-ends at (1 + recordCells (newCounts flag v)) e)))
 
-    update-left : (key : Bool) → r .act ≡ Act.Write (Write.Update key) → NoMarker (k .selection) → Fine (updates key x (k .place) n)
-    unfolding updates sight goesOver writesOver ends
+    update-left : (key : Bool) → r .act ≡ Act.Write (Write.Update key) → NoMarker (k .selection) → Fine (updateTurn key x (k .place) n)
+    unfolding updateTurn sight goesOver writesOver endTurn
     update-left key act free = go (x .recorded) refl
       where
         go : (b : Bool) → x .recorded ≡ b → Fine (pick b
-            (endsAt x k (endingOf j) (Takes (keySent key n + n .dl))
-            (over x (keyArea (k .place) n) 0 (keySent key n) ++ over x (dataArea (k .place) n) (keySent key n) (n .dl)) false)
-            (fails x Row.Unreadable))
+            (endTurnAt x k (endingOf j) (Takes (keySent key n + n .dl))
+            (overPiece x (keyArea (k .place) n) 0 (keySent key n) ++ overPiece x (dataArea (k .place) n) (keySent key n) (n .dl)) false)
+            (failTurn x Row.Unreadable))
         go true e =
             let rec : allRecorded t (named (k .place) key true n) ≡ true =
             (λ i. allRecorded (tr (sym (on .here) i)) (goesOver (sym act i) (k .place) n)) ∙ e in
@@ -288,8 +288,8 @@ module _ (g : Shape) (tr : Tracks) (s : Stands) (o : Orders) (code : ℕ) (v : L
             (update-on x (s .head) t key (k .place) n (on .here) (wh .long) rec) (free-leaves _ (k .selection) free (on .leaves))
         go false e = fails-left Row.Unreadable
 
-    lays-left : (w : Write) → r .act ≡ Act.Write w → WriteFree w (k .selection) → Fine (lays w x)
-    unfolding lays sight endBy recordCells
+    lays-left : (w : Write) → r .act ≡ Act.Write w → WriteFree w (k .selection) → Fine (writeTurn w x)
+    unfolding writeTurn sight endBy recordCells
     lays-left Write.HomeAddress act free = home-left free
     lays-left Write.R0 act free = r0-left free _
     lays-left Write.CountKeyData act free = record-left _ _ (omega arith)
@@ -297,29 +297,29 @@ module _ (g : Shape) (tr : Tracks) (s : Stands) (o : Orders) (code : ℕ) (v : L
 
     -- ---- all of them
 
-    acts-left : (a : Act) → r .act ≡ a → steady a r ≡ true → ActFree a (k .selection) → Fine (acts g a x)
-    unfolding acts steady compares comparesWith gives sight
+    acts-left : (a : Act) → r .act ≡ a → steady a r ≡ true → ActFree a (k .selection) → Fine (actTurn g a x)
+    unfolding actTurn steady searchTurn fieldTurn readTurn sight
     acts-left (Act.Control a) act e free = does-left a (not-true (r .selects) e) free
     acts-left (Act.Search h) act e free = rests-left _ _ _
     acts-left (Act.Read c) act e free = rests-left _ _ _
     acts-left (Act.Write w) act e free = lays-left w act free
 
   module _ (r : Rule) (same : r .selects ≡ ruleOf code .selects) (tm : tame r ≡ true) where
-    read-left : (l : List Lies) (k : Task) (y : Got) → TaskOn (marks t) r s k → ActFree (r .act) (k .selection)
-        → Fine (turnBy g tr s o v l (hasRead code r s o k y))
-    unfolding turnBy hasRead tame
+    read-left : (l : List TrackArea) (k : Task) (y : Got) → TaskOn (marks t) r s k → ActFree (r .act) (k .selection)
+        → Fine (readyTurn g tr s o v l (hasRead code r s o k y))
+    unfolding readyTurn hasRead tame
     read-left l k (Sees n) on free = acts-left r same k n on (r .act) refl (second-of (selectsOne (r .aim) (r .selects)) _ tm) free
     read-left l k (Fails row) on free = checks-left l row
 
-    plan-left : (l : List Lies) (p : Plan) → PlanOn (marks t) r s p → OnPlan (ActFree (r .act)) p → Fine (turnBy g tr s o v l (readyBy tr code r s o p))
-    unfolding turnBy readyBy
+    plan-left : (l : List TrackArea) (p : Plan) → PlanOn (marks t) r s p → OnPlan (ActFree (r .act)) p → Fine (readyTurn g tr s o v l (readyBy tr code r s o p))
+    unfolding readyTurn readyBy
     plan-left l (Refuses row) on free = checks-left l row
     plan-left l (Works k) on free = read-left l k _ on free
 
-    obeys-left : Fine (obeys g tr code r s o v)
-    unfolding obeys tame
+    obeys-left : Fine (ruleTurn g tr code r s o v)
+    unfolding ruleTurn tame
     obeys-left =
-        plan-left _ (plans r (marksOf tr) s o)
+        plan-left _ (planOf r (marksOf tr) s o)
         (plan-on tr r s o wh (selected-on _ o fit) (place-in g s ok) (first-of (selectsOne (r .aim) (r .selects)) _ tm))
         (act-free r (marksOf tr) s o (r .act) (second-of (selectsOne (r .aim) (r .selects)) _ tm))
 

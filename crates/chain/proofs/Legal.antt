@@ -21,16 +21,16 @@ use Rattle.pack.specs.declared.{Shape.Shape}
 use Rattle.pack.specs.Tracks.{startOf, trackAt, withTrack}
 use Rattle.pack.proofs.Laws.{length-track, start-inside}
 use Rattle.hunt.specs.Hunt as Hunt
-use Rattle.held.specs.declared.{Stands.Stands, Held.Held}
+use Rattle.held.specs.declared.{Position.Position, Held.Held}
 use Rattle.held.specs.Held.{fresh, freshOrders, freshChannel, rested}
-use Rattle.turn.specs.Turn.{ordered}
+use Rattle.turn.specs.Turn.{ordersOf}
 use Rattle.channel.specs.Channel.{onward, stride}
 use Rattle.table.specs.Table.{controls, searches, reads, writes, find, ruleOf}
-use Rattle.turn.specs.Turn.{Turn, given, toldOf, laid}
+use Rattle.turn.specs.Turn.{Turn, given, reportOf, lay}
 use Rattle.command.proofs.Pieces.{length-laid}
 use Rattle.channel.specs.Channel.{fetched, placed, goesOn, heldAfter, statusAfter, withStatus, storageAfter}
-use Rattle.chain.specs.Step.{World, world, under, selected, next, tracksOf, laidOn, stops, jumped, turnOf, settled, obeyed, takes, step}
-use Rattle.chain.specs.Legal.{standsFit, channelFits, selectionFits, ordersFit, Legal}
+use Rattle.chain.specs.Step.{World, world, under, trackUnder, next, tracksOf, layOn, stops, jumped, turnOf, settled, obeyed, stepBy, step}
+use Rattle.chain.specs.Legal.{positionFits, channelFits, selectionFits, ordersFit, Legal}
 use Rattle.chain.proofs.Fits.{stands-on, key-in, channel-fits}
 use Rattle.chain.proofs.Left.{Left, Chosen, anywhere, here, command-left}
 use Rattle.chain.proofs.Pack.{laid-on}
@@ -49,30 +49,30 @@ unfolding placed
 length-placed s d v r = length-overlay s (d .address) _ (omega (arith, length-take (d .count) v, r .area))
 
 -- a chain at its end
-fresh-orders : (m : List Bool) (s : Stands) → ordersFit m (rested s .orders) ≡ true
+fresh-orders : (m : List Bool) (s : Position) → ordersFit m (rested s .orders) ≡ true
 unfolding rested fresh freshOrders ordersFit selectionFits legal ruleOf find controls searches reads writes
 fresh-orders m s = refl
 
-fresh-channel : (s : Stands) → channelFits (rested s .channel) ≡ true
+fresh-channel : (s : Position) → channelFits (rested s .channel) ≡ true
 unfolding rested fresh freshChannel channelFits
 fresh-channel s = refl
 
-fresh-stands : (g : Shape) (s : Stands) → standsFit g s ≡ true → standsFit g (rested s .stands) ≡ true
+fresh-stands : (g : Shape) (s : Position) → positionFits g s ≡ true → positionFits g (rested s .position) ≡ true
 unfolding rested
 fresh-stands g s e = e
 
 module _ (g : Shape) (w : World) (L : Legal g w) where
   pub inside : under g (w .held) + trackCells ≤ length (w .cells)
   unfolding under
-  inside = start-inside g _ _ (stands-on g (w .held .stands) (L .standing)) (w .cells) (L .whole)
+  inside = start-inside g _ _ (stands-on g (w .held .position) (L .standing)) (w .cells) (L .whole)
 
-  pub track-whole : Hunt.Whole (selected g w)
-  unfolding selected
+  pub track-whole : Hunt.WholeTrack (trackUnder g w)
+  unfolding trackUnder
   track-whole = record { long = length-track (w .cells) (under g (w .held)) inside }
 
   -- ---- a chain at its end is legal, a TIC too
 
-  rests : (s : Stands) → standsFit g s ≡ true → (st c : List ℕ) → length st ≡ length (w .storage) → length c ≡ length (w .cells) → Legal g (world (rested s) st c)
+  rests : (s : Position) → positionFits g s ≡ true → (st c : List ℕ) → length st ≡ length (w .storage) → length c ≡ length (w .cells) → Legal g (world (rested s) st c)
   rests s k st c l m = record {
     whole = record { cylinders = L .whole .cylinders; heads = L .whole .heads; count = m ∙ L .whole .count };
     room = omega (arith, L .room);
@@ -83,10 +83,10 @@ module _ (g : Shape) (w : World) (L : Legal g w) where
 
   stops-legal : (cause : Cause) → Legal g (stops w cause)
   unfolding stops
-  stops-legal cause = rests (w .held .stands) (L .standing) _ _ (length-stored (w .storage) _ (L .room)) refl
+  stops-legal cause = rests (w .held .position) (L .standing) _ _ (length-stored (w .storage) _ (L .room)) refl
 
   jumped-legal : (a : ℕ) → Legal g (world (jumped (w .held) a) (w .storage) (w .cells))
-  unfolding jumped under selected
+  unfolding jumped under trackUnder
   jumped-legal a = record {
     whole = L .whole;
     room = L .room;
@@ -97,42 +97,42 @@ module _ (g : Shape) (w : World) (L : Legal g w) where
 
   -- ---- a command
 
-  module _ (d : Word) (x : Turn) (f : Left g (w .held .stands) (selected g w) x) (r : Reaches (w .storage) d) where
+  module _ (d : Word) (x : Turn) (f : Left g (w .held .position) (trackUnder g w) x) (r : Reaches (w .storage) d) where
     abbrev cells′ : List ℕ
-    cells′ = laidOn g (w .held .stands .cylinder) (x .lays) (w .cells)
+    cells′ = layOn g (w .held .position .cylinder) (x .lays) (w .cells)
 
-    full : length (laid (x .lays) (selected g w)) ≡ trackCells
-    full = length-laid (w .held .stands .head) (x .lays) (selected g w) (f .pieces) (track-whole .long)
+    full : length (lay (x .lays) (trackUnder g w)) ≡ trackCells
+    full = length-laid (w .held .position .head) (x .lays) (trackUnder g w) (f .pieces) (track-whole .long)
 
-    pub put-back : cells′ ≡ withTrack (w .cells) (under g (w .held)) (laid (x .lays) (selected g w))
-    unfolding under selected
-    put-back = laid-on g (w .held .stands .cylinder) (w .held .stands .head) (w .cells) inside (x .lays) (f .pieces)
+    pub put-back : cells′ ≡ withTrack (w .cells) (under g (w .held)) (lay (x .lays) (trackUnder g w))
+    unfolding under trackUnder
+    put-back = laid-on g (w .held .position .cylinder) (w .held .position .head) (w .cells) inside (x .lays) (f .pieces)
 
     kept-size : length cells′ ≡ length (w .cells)
     unfolding withTrack
     kept-size = ap length put-back ∙ length-overlay (w .cells) (under g (w .held)) _ (omega (arith, full, inside))
 
     -- the track is found again where it was put
-    found-again : trackAt cells′ (under g (w .held)) ≡ laid (x .lays) (selected g w)
+    found-again : trackAt cells′ (under g (w .held)) ≡ lay (x .lays) (trackUnder g w)
     unfolding trackAt withTrack
     found-again =
         ap (λ (c : List ℕ). part c (under g (w .held)) trackCells) put-back
-        ∙ ap (part (overlay (w .cells) (under g (w .held)) (laid (x .lays) (selected g w))) (under g (w .held))) (sym full)
+        ∙ ap (part (overlay (w .cells) (under g (w .held)) (lay (x .lays) (trackUnder g w))) (under g (w .held))) (sym full)
         ∙ part-overlay (w .cells) (under g (w .held)) _ (omega (arith, full, inside))
 
-    under-same : (h : Held) → h .stands .cylinder ≡ w .held .stands .cylinder → h .stands .head ≡ w .held .stands .head → under g h ≡ under g (w .held)
+    under-same : (h : Held) → h .position .cylinder ≡ w .held .position .cylinder → h .position .head ≡ w .held .position .head → under g h ≡ under g (w .held)
     unfolding under
     under-same h p q = λ i. startOf g (p i) (q i)
 
-    fits-there : (h : Held) (st : List ℕ) → Chosen (w .held .stands) (h .stands) (h .orders) (laid (x .lays) (selected g w))
-        → ordersFit (marks (selected g (world h st cells′))) (h .orders) ≡ true
-    unfolding selected
+    fits-there : (h : Held) (st : List ℕ) → Chosen (w .held .position) (h .position) (h .orders) (lay (x .lays) (trackUnder g w))
+        → ordersFit (marks (trackUnder g (world h st cells′))) (h .orders) ≡ true
+    unfolding trackUnder
     fits-there h st (anywhere k) = k _
     fits-there h st (here p q k) =
         subst (λ (t : List ℕ). ordersFit (marks t) (h .orders) ≡ true) (sym (ap (trackAt cells′) (under-same h p q) ∙ found-again)) k
 
     abbrev on : Held
-    on = record { stands = x .stands; orders = x .orders; channel = onward (w .held .channel) (stride (x .ending)) }
+    on = record { position = x .position; orders = x .orders; channel = onward (w .held .channel) (stride (x .ending)) }
 
     onward-fits : (n : ℕ) → channelFits (onward (w .held .channel) n) ≡ true
     unfolding onward
@@ -156,28 +156,28 @@ module _ (g : Shape) (w : World) (L : Legal g w) where
         length-stored st′ y (omega (arith, L .room, e)) ∙ e
 
     settled-legal : Legal g (settled g w d x)
-    unfolding settled heldAfter storageAfter withStatus toldOf
-    settled-legal = go (goesOn d (toldOf x))
+    unfolding settled heldAfter storageAfter withStatus reportOf
+    settled-legal = go (goesOn d (reportOf x))
       where
-        go : (b : Bool) → Legal g (world (pick b on (rested (x .stands))) (pick b st′ (stored st′ (statusAfter (w .held .channel) d (toldOf x)))) cells′)
+        go : (b : Bool) → Legal g (world (pick b on (rested (x .position))) (pick b st′ (stored st′ (statusAfter (w .held .channel) d (reportOf x)))) cells′)
         go true = goes
-        go false = rests (x .stands) (f .standing) _ _ (ends-size _) kept-size
+        go false = rests (x .position) (f .standing) _ _ (ends-size _) kept-size
 
     settled-sizes : Sizes w (settled g w d x)
     unfolding settled storageAfter withStatus
     settled-sizes = record {
-      storage = pick-all (λ (z : List ℕ). length z ≡ length (w .storage)) (goesOn d (toldOf x)) (length-placed (w .storage) d (given (x .moves)) r) (ends-size _);
+      storage = pick-all (λ (z : List ℕ). length z ≡ length (w .storage)) (goesOn d (reportOf x)) (length-placed (w .storage) d (given (x .moves)) r) (ends-size _);
       cells = kept-size;
     }
 
-  pub turn-left : (d : Word) → Left g (w .held .stands) (selected g w) (turnOf g w d)
-  unfolding turnOf selected under tracksOf
+  pub turn-left : (d : Word) → Left g (w .held .position) (trackUnder g w) (turnOf g w d)
+  unfolding turnOf trackUnder under tracksOf
   turn-left d =
-      command-left g (tracksOf g (w .cells) (w .held .stands .cylinder)) (w .held .stands) (w .held .orders) (d .code) (fetched (w .storage) d)
+      command-left g (tracksOf g (w .cells) (w .held .position .cylinder)) (w .held .position) (w .held .orders) (d .code) (fetched (w .storage) d)
       (L .standing) track-whole (L .ordered)
 
-  takes-legal : (x : Tested) → TestedIn (w .storage) x → Legal g (takes g w x)
-  unfolding takes obeyed
+  takes-legal : (x : Tested) → TestedIn (w .storage) x → Legal g (stepBy g w x)
+  unfolding stepBy obeyed
   takes-legal (Obey d) h = settled-legal d _ (turn-left d) (record { area = h })
   takes-legal (Jump a) h = jumped-legal a
   takes-legal (Bad cause) h = stops-legal cause
@@ -186,8 +186,8 @@ module _ (g : Shape) (w : World) (L : Legal g w) where
   unfolding step next
   step-legal = takes-legal _ (tested-in (w .storage) (w .held .channel .next) (w .held .channel .«after_tic»))
 
-  takes-sizes : (x : Tested) → TestedIn (w .storage) x → Sizes w (takes g w x)
-  unfolding takes obeyed stops
+  takes-sizes : (x : Tested) → TestedIn (w .storage) x → Sizes w (stepBy g w x)
+  unfolding stepBy obeyed stops
   takes-sizes (Obey d) h = settled-sizes d _ (turn-left d) (record { area = h })
   takes-sizes (Jump a) h = record { storage = refl; cells = refl }
   takes-sizes (Bad cause) h = record { storage = length-stored (w .storage) _ (L .room); cells = refl }

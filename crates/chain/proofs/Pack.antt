@@ -10,10 +10,10 @@ use Rattle.cells.proofs.Laws.{length-overlay, overlay-same}
 use Rattle.pack.specs.declared.{Cylinder.Cylinder, Head.Head, Shape.Shape}
 use Rattle.pack.specs.Tracks.{startOf, trackAt, withTrack}
 use Rattle.pack.proofs.Laws.{length-track}
-use Rattle.turn.specs.Turn.{Piece, laid}
+use Rattle.turn.specs.Turn.{Piece, lay}
 use Rattle.command.proofs.Pieces.{PiecesOn}
 use Rattle.channel.proofs.Parts.{overlay-inner}
-use Rattle.chain.specs.Step.{laidOn}
+use Rattle.chain.specs.Step.{layOn}
 
 module _ (g : Shape) (c : Cylinder) (h : Head) (cells : List ℕ) (inside : startOf g c h + trackCells ≤ length cells) where
   piece-on : (p : Piece) (t : List ℕ) → p .head ≡ h → p .first + length (p .cells) ≤ trackCells → length t ≡ trackCells
@@ -25,15 +25,15 @@ module _ (g : Shape) (c : Cylinder) (h : Head) (cells : List ℕ) (inside : star
       ∙ overlay-inner cells t (p .cells) (startOf g c h) (p .first) (omega (arith, inside, long)) (omega (arith, k, long))
 
   pieces-on : (l : List Piece) (t : List ℕ) → PiecesOn h l → length t ≡ trackCells
-      → laidOn g c l (withTrack cells (startOf g c h) t) ≡ withTrack cells (startOf g c h) (laid l t)
-  unfolding laidOn laid
+      → layOn g c l (withTrack cells (startOf g c h) t) ≡ withTrack cells (startOf g c h) (lay l t)
+  unfolding layOn lay
   pieces-on [] t p e = refl
   pieces-on (x ∷ l) t p e =
-      ap (laidOn g c l) (piece-on x t (p .0) (p .1) e)
+      ap (layOn g c l) (piece-on x t (p .0) (p .1) e)
       ∙ pieces-on l (overlay t (x .first) (x .cells)) (p .2) (length-overlay t (x .first) (x .cells) (omega (arith, p .1, e)) ∙ e)
 
-  pub laid-on : (l : List Piece) → PiecesOn h l → laidOn g c l cells ≡ withTrack cells (startOf g c h) (laid l (trackAt cells (startOf g c h)))
+  pub laid-on : (l : List Piece) → PiecesOn h l → layOn g c l cells ≡ withTrack cells (startOf g c h) (lay l (trackAt cells (startOf g c h)))
   unfolding trackAt withTrack
   laid-on l p =
-      ap (laidOn g c l) (sym (overlay-same cells (startOf g c h) trackCells inside))
+      ap (layOn g c l) (sym (overlay-same cells (startOf g c h) trackCells inside))
       ∙ pieces-on l (trackAt cells (startOf g c h)) p (length-track cells (startOf g c h) inside)

@@ -17,16 +17,16 @@ use Rattle.words.specs.declared.Tested.the-variants.{Obey, Jump, Bad}
 use Rattle.words.specs.Words as Words
 use Rattle.words.specs.Words.{along, chains, isTic, wordAt, testedWord, tested}
 use Rattle.pack.specs.declared.{Shape.Shape}
-use Rattle.held.specs.declared.{Stands.Stands, Held.Held, Orders.Orders}
+use Rattle.held.specs.declared.{Position.Position, Held.Held, Orders.Orders}
 use Rattle.held.specs.declared.Selection.the-variants.{Nothing}
 use Rattle.turn.specs.declared.Ending.the-variants.{Normal}
-use Rattle.turn.specs.Turn.{standing, after, ordered}
+use Rattle.turn.specs.Turn.{positionAt, after, ordersOf}
 use Rattle.channel.specs.Channel.{endsWell, stride, onward}
 use Rattle.table.specs.Table.{ruleOf, find, controls}
-use Rattle.turn.specs.Turn.{Tracks, None, movingOf, given, Turn, turn, toldOf}
-use Rattle.command.specs.Command.{licensed, aimed, unlessBarred, plans, areasOf, allRead, countsIn, gets, areasRead, sight, standsAfter, senseAfter, ordersAfter, endsAt, ends, rests, does, acts, hasRead, readyBy, planReads, turnBy, obeys, command}
-use Rattle.channel.specs.Channel.{fetched, placed, moves, lengthCounts, wrongLength, goesOn, heldAfter, withStatus, storageAfter}
-use Rattle.chain.specs.Step.{World, world, next, tracksOf, laidOn, turnOf, settled, obeyed, takes, step, run}
+use Rattle.turn.specs.Turn.{Tracks, None, transferOf, given, Turn, turn, reportOf}
+use Rattle.command.specs.Command.{licensed, aimed, unlessBarred, planOf, areasOf, allRead, countsIn, gets, areasRead, sight, positionAfter, senseAfter, ordersAfter, endTurnAt, endTurn, noOpTurn, controlTurn, actTurn, hasRead, readyBy, planReads, readyTurn, ruleTurn, command}
+use Rattle.channel.specs.Channel.{fetched, placed, movesAny, lengthCounts, wrongLength, goesOn, heldAfter, withStatus, storageAfter}
+use Rattle.chain.specs.Step.{World, world, next, tracksOf, layOn, turnOf, settled, obeyed, stepBy, step, run}
 use Rattle.chain.specs.Legal.{Legal}
 use Rattle.chain.specs.Stroke.{passes, passing, passed, Passed}
 use Rattle.chain.proofs.Laws.{world-eq}
@@ -37,7 +37,7 @@ use Rattle.chain.proofs.Runs.{run-more}
 module _ (s : List ℕ) (at : ℕ) where
   same-test : (tic : Bool) → passing (tested s at false) ≡ true → tested s at tic ≡ tested s at false
   unfolding tested testedWord passing
-  same-test tic e = go (Words.placed s at) (isTic (wordAt s at)) _ _ _ _ e
+  same-test tic e = go (Words.inPlace s at) (isTic (wordAt s at)) _ _ _ _ e
     where
       go : (p q : Bool) (a : ℕ) (u v x : Tested) → passing (pick p (pick q (Jump a) u) v) ≡ true → pick p (pick q (pick tic x (Jump a)) u) v ≡ pick p (pick q (Jump a) u) v
       go true true a u v x e = absurd (false≢true e)
@@ -57,27 +57,27 @@ pub by-test : (s : List ℕ) (at : ℕ) (x y : Tested) (r : Bool) → x ≡ test
 by-test s at x y r p q e = e ∙ ap passing (sym q ∙ p)
 
 -- a No-op's turn: nothing moves, nothing is laid, and sense stands
-no-op : (g : Shape) (t : Tracks) (s : Stands) (o : Orders) (v : List ℕ) → command g t s o 0x03 v ≡ turn Normal None [] [] s (after o 0x03 false 0 Nothing)
-unfolding command ruleOf find controls obeys plans licensed unlessBarred aimed planReads areasOf readyBy gets allRead hasRead turnBy acts does rests ends endsAt sight areasRead standsAfter senseAfter standing ordersAfter countsIn
+no-op : (g : Shape) (t : Tracks) (s : Position) (o : Orders) (v : List ℕ) → command g t s o 0x03 v ≡ turn Normal None [] [] s (after o 0x03 false 0 Nothing)
+unfolding command ruleOf find controls ruleTurn planOf licensed unlessBarred aimed planReads areasOf readyBy gets allRead hasRead readyTurn actTurn controlTurn noOpTurn endTurn endTurnAt sight areasRead positionAfter senseAfter positionAt ordersAfter countsIn
 no-op g t s o v = refl
 
 module _ (g : Shape) (w : World) (L : Legal g w) where
   module _ (d : Word) (code : d .code ≡ 0x03) (on : chains d ≡ true) where
     abbrev x : Turn
-    x = turn Normal None [] [] (w .held .stands) (after (w .held .orders) 0x03 false 0 Nothing)
+    x = turn Normal None [] [] (w .held .position) (after (w .held .orders) 0x03 false 0 Nothing)
 
     turn-no-op : turnOf g w d ≡ x
     unfolding turnOf
     turn-no-op =
-        ap (λ (c : ℕ). command g (tracksOf g (w .cells) (w .held .stands .cylinder)) (w .held .stands) (w .held .orders) c (fetched (w .storage) d)) code
+        ap (λ (c : ℕ). command g (tracksOf g (w .cells) (w .held .position .cylinder)) (w .held .position) (w .held .orders) c (fetched (w .storage) d)) code
         ∙ no-op g _ _ _ _
 
-    goes-on : goesOn d (toldOf x) ≡ true
-    unfolding goesOn wrongLength lengthCounts moves endsWell toldOf movingOf
+    goes-on : goesOn d (reportOf x) ≡ true
+    unfolding goesOn wrongLength lengthCounts movesAny endsWell reportOf transferOf
     goes-on = ap (λ (b : Bool). both b true) on
 
-    held-on : heldAfter (w .held .channel) d (toldOf x) ≡ passed (w .held) (along (w .held .channel .next) 8)
-    unfolding heldAfter onward stride passed toldOf
+    held-on : heldAfter (w .held .channel) d (reportOf x) ≡ passed (w .held) (along (w .held .channel .next) 8)
+    unfolding heldAfter onward stride passed reportOf
     held-on = first-picked _ _ _ goes-on
 
     storage-on : storageAfter (w .held .channel) d x (w .storage) ≡ w .storage
@@ -85,11 +85,11 @@ module _ (g : Shape) (w : World) (L : Legal g w) where
     storage-on = first-picked _ _ _ goes-on ∙ ap (overlay (w .storage) (d .address)) (take-nil (d .count)) ∙ overlay-none (w .storage) (d .address)
 
     obeyed-no-op : obeyed g w d ≡ world (passed (w .held) (along (w .held .channel .next) 8)) (w .storage) (w .cells)
-    unfolding obeyed settled laidOn
+    unfolding obeyed settled layOn
     obeyed-no-op = ap (settled g w d) turn-no-op ∙ world-eq held-on storage-on refl
 
-  takes-pass : (x : Tested) → passing x ≡ true → takes g w x ≡ world (passed (w .held) (along (w .held .channel .next) 8)) (w .storage) (w .cells)
-  unfolding takes passing passes
+  takes-pass : (x : Tested) → passing x ≡ true → stepBy g w x ≡ world (passed (w .held) (along (w .held .channel .next) 8)) (w .storage) (w .cells)
+  unfolding stepBy passing passes
   takes-pass (Obey d) e = obeyed-no-op d (eqb-true _ _ (first-of (eqb (d .code) 0x03) _ e)) (second-of (eqb (d .code) 0x03) _ e)
   takes-pass (Jump a) e = absurd (false≢true e)
   takes-pass (Bad cause) e = absurd (false≢true e)
@@ -97,15 +97,15 @@ module _ (g : Shape) (w : World) (L : Legal g w) where
   step-passes : passing (tested (w .storage) (w .held .channel .next) false) ≡ true
       → step g w ≡ world (passed (w .held) (along (w .held .channel .next) 8)) (w .storage) (w .cells)
   unfolding step next
-  step-passes e = ap (takes g w) (same-test _ _ _ e) ∙ takes-pass _ e
+  step-passes e = ap (stepBy g w) (same-test _ _ _ e) ∙ takes-pass _ e
 
 -- ---- a run of them
 
 module _ (h : Held) where
   pub passed-is : (next : ℕ) (o : Orders) → o ≡ after (h .orders) 0x03 false 0 Nothing
-      → record { stands = h .stands; orders = o; channel = record { going = h .channel .going; key = h .channel .key; next = next; «after_tic» = false } } ≡ passed h next
+      → record { position = h .position; orders = o; channel = record { going = h .channel .going; key = h .channel .key; next = next; «after_tic» = false } } ≡ passed h next
   unfolding passed
-  passed-is next o e = ap (λ (x : Orders). record { stands = h .stands; orders = x; channel = record { going = h .channel .going; key = h .channel .key; next = next; «after_tic» = false } }) e
+  passed-is next o e = ap (λ (x : Orders). record { position = h .position; orders = x; channel = record { going = h .channel .going; key = h .channel .key; next = next; «after_tic» = false } }) e
 
   passed-goes : h .channel .going ≡ true → (a : ℕ) → passed h a .channel .going ≡ true
   unfolding passed
@@ -128,7 +128,7 @@ both-passed p q = record { same = λ g c L. p .same g c L ∙ q .same g c (p .le
 
 module _ (s : List ℕ) (h : Held) (n : ℕ) (going : h .channel .going ≡ true) (at left : ℕ) (p : Passed s h n (passed h at) left × (left < n)) where
   passed-on : 0 < left → passing (tested s at false) ≡ true → Passed s h n (passed h (along at 8)) (left - 1)
-  unfolding passed after ordered
+  unfolding passed after ordersOf
   passed-on k e = both-passed (p .0) (one-more s (passed h at) left (passed-goes h going at) k e)
 
   pub passed-more : (next : ℕ) (b : Bool) → next ≡ along at 8 → 0 < left → b ≡ passing (tested s at false) → b ≡ true

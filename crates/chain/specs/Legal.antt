@@ -12,11 +12,11 @@ use Rattle.words.specs.Words.{addresses}
 use Rattle.hunt.specs.Hunt.{spotFits}
 use Rattle.pack.specs.declared.{Shape.Shape}
 use Rattle.pack.specs.Shapes.{cylinderOn, headOn}
-use Rattle.pack.specs.Tracks.{Whole}
+use Rattle.pack.specs.Tracks.{WholePack}
 use Rattle.command.specs.Command.{mostTally}
 use Rattle.table.specs.Table.{ruleOf}
-use Rattle.held.specs.declared.{Selection.Selection, Stands.Stands, Orders.Orders, Channel.Channel}
-use Rattle.chain.specs.Step.{World, selected}
+use Rattle.held.specs.declared.{Selection.Selection, Position.Position, Orders.Orders, Channel.Channel}
+use Rattle.chain.specs.Step.{World, trackUnder}
 
 -- 2: the least storage, for the words at 64 and 72; the most
 abbrev pub leastStorage : ℕ
@@ -26,8 +26,8 @@ unfoldable pub storageFits : ℕ → Bool
 storageFits n = both (leb leastStorage n) (leb n addresses)
 
 -- 4: off the pack, place over 4,096
-unfoldable pub standsFit : Shape → Stands → Bool
-standsFit g s = both (cylinderOn g (s .cylinder)) (both (headOn g (s .head)) (leb (s .place) trackCells))
+unfoldable pub positionFits : Shape → Position → Bool
+positionFits g s = both (cylinderOn g (s .cylinder)) (both (headOn g (s .head)) (leb (s .place) trackCells))
 
 -- key over 15, next address over 24 bits
 abbrev pub keys : ℕ
@@ -47,12 +47,12 @@ ordersFit m o = both (legal (o .mask)) (both (leb (o .tally) mostTally) (selecti
 
 unfoldable pub heldFits : Shape → World → Bool
 heldFits g w =
-    both (standsFit g (w .held .stands)) (both (channelFits (w .held .channel)) (ordersFit (marks (selected g w)) (w .held .orders)))
+    both (positionFits g (w .held .position)) (both (channelFits (w .held .channel)) (ordersFit (marks (trackUnder g w)) (w .held .orders)))
 
 -- what the refusals make sure of for a step
 pub record Legal (g : Shape) (w : World) : Type 0 where
-  pub whole : Whole g (w .cells)
+  pub whole : WholePack g (w .cells)
   pub room : leastStorage ≤ length (w .storage)
-  pub standing : standsFit g (w .held .stands) ≡ true
+  pub standing : positionFits g (w .held .position) ≡ true
   pub channeled : channelFits (w .held .channel) ≡ true
-  pub ordered : ordersFit (marks (selected g w)) (w .held .orders) ≡ true
+  pub ordered : ordersFit (marks (trackUnder g w)) (w .held .orders) ≡ true

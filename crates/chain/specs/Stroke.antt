@@ -26,7 +26,7 @@ passing (Tested.Bad cause) = false
 -- what is held after No-ops, with this next word
 unfoldable pub passed : Held → ℕ → Held
 passed h next = record {
-  stands = h .stands;
+  position = h .position;
   orders = after (h .orders) 0x03 false 0 Selection.Nothing;
   channel = record { going = h .channel .going; key = h .channel .key; next = next; «after_tic» = false };
 }

@@ -31,9 +31,9 @@ fn command(g: Shape, h: Held, w: Word, storage: &mut [u8], cells: &mut [u16]) ->
     requires { ⌜ Legal g (world h (now storage) (now cells)) × Reaches (now storage) w ⌝ }
     ensures { λ r. ⌜ world r (now (storage .exit)) (now (cells .exit)) ≡ obeyed g (world h (now (storage .entry)) (now (cells .entry))) w ⌝ }
 {
-    let stands = h.stands;
-    let cylinder = stands.cylinder;
-    let head = stands.head;
+    let position = h.position;
+    let cylinder = position.cylinder;
+    let head = position.head;
     let start = pack::start_of(g, cylinder, head);
     channel::obey(g, h, w, storage, &mut cells[start..start + TRACK_CELLS])
 }
@@ -42,7 +42,7 @@ fn command(g: Shape, h: Held, w: Word, storage: &mut [u8], cells: &mut [u16]) ->
 fn jump(h: Held, a: u32) -> Held
     ensures { λ r. ⌜ r ≡ jumped h a ⌝ }
 {
-    let stands = h.stands;
+    let position = h.position;
     let orders = h.orders;
     let channel = Channel {
         going: h.channel.going,
@@ -51,7 +51,7 @@ fn jump(h: Held, a: u32) -> Held
         after_tic: true,
     };
     Held {
-        stands,
+        position,
         orders,
         channel,
     }
@@ -62,10 +62,10 @@ fn stop(h: Held, cause: Cause, storage: &mut [u8]) -> Held
     requires { ⌜ (leastStorage ≤ length (now storage)) × (h .channel .key < keys) ⌝ }
     ensures { λ r. ⌜ ((c : List ℕ) → world r (now (storage .exit)) c ≡ stops (world h (now (storage .entry)) c) cause) ⌝ }
 {
-    let stands = h.stands;
+    let position = h.position;
     let status = words::program_check(h.channel.key, h.channel.next, cause);
     words::store_status(storage, status);
-    Held::rested(stands)
+    Held::rested(position)
 }
 
 // One command word.
@@ -110,7 +110,7 @@ fn is_pass(storage: &[u8], at: u32) -> bool
 fn passed(h: Held, next: u32) -> Held
     ensures { λ r. ⌜ r ≡ passed h next ⌝ }
 {
-    let stands = h.stands;
+    let position = h.position;
     let orders = Orders {
         mask: h.orders.mask,
         mask_set: h.orders.mask_set,
@@ -126,7 +126,7 @@ fn passed(h: Held, next: u32) -> Held
         after_tic: false,
     };
     Held {
-        stands,
+        position,
         orders,
         channel,
     }

@@ -15,18 +15,18 @@ use Rattle.words.specs.Status.{Storable, stored, statusFor}
 use Rattle.held.specs.declared.{Channel.Channel}
 use Rattle.held.specs.Held.{rested}
 use Rattle.channel.specs.Channel.{endsWell, stride, onward}
-use Rattle.turn.specs.declared.{Told.Told}
+use Rattle.turn.specs.declared.{Report.Report}
 use Rattle.turn.specs.Turn.{wants}
-use Rattle.channel.specs.Channel.{moved, lengthCounts, wrongLength, goesOn, statusAfter, heldAfter, withStatus}
+use Rattle.channel.specs.Channel.{bytesMoved, lengthCounts, wrongLength, goesOn, statusAfter, heldAfter, withStatus}
 
-module _ (w : Word) (d : Told) where
-  pub moved-within : moved w d ≤ w .count
-  unfolding moved
+module _ (w : Word) (d : Report) where
+  pub moved-within : bytesMoved w d ≤ w .count
+  unfolding bytesMoved
   moved-within = omega arith
 
   -- the length that counts, by its tests
   shape : (a b x : Bool) → lengthCounts d ≡ a → suppresses w ≡ b
-      → either (ltb (moved w d) (w .count)) (ltb (w .count) (wants (d .moving))) ≡ x → both a (both (not b) x) ≡ wrongLength w d
+      → either (ltb (bytesMoved w d) (w .count)) (ltb (w .count) (wants (d .transfer))) ≡ x → both a (both (not b) x) ≡ wrongLength w d
   unfolding wrongLength
   shape a b x p q r = λ i. both (sym p i) (both (not (sym q i)) (sym r i))
 
@@ -45,11 +45,11 @@ module _ (w : Word) (d : Told) where
       go (no h) (yes k) = rw (lt-ltb (min c n) c (omega (arith, k)), ne-eqb n c (λ e. omega (arith, k, e)))
       go (no h) (no k) = rw (le-ltb (min c n) c (omega arith), le-ltb c n (omega arith), eq-eqb n c (omega arith))
 
-  pub by-wanted : (b : Bool) (n : ℕ) → b ≡ lengthCounts d → b ≡ true → (w .flags / 32 % 2 ≡ 1 → ⊥) → n ≡ wants (d .moving)
+  pub by-wanted : (b : Bool) (n : ℕ) → b ≡ lengthCounts d → b ≡ true → (w .flags / 32 % 2 ≡ 1 → ⊥) → n ≡ wants (d .transfer)
       → not (eqb n (w .count)) ≡ wrongLength w d
-  unfolding moved
+  unfolding bytesMoved
   by-wanted b n p e q r =
-      rw (r) (shape true false _ (sym p ∙ e) (ne-eqb _ _ q) (differs (w .count) (wants (d .moving))))
+      rw (r) (shape true false _ (sym p ∙ e) (ne-eqb _ _ q) (differs (w .count) (wants (d .transfer))))
 
   -- whether the chain goes on, by the tests
   onto : (a b x : Bool) → chains w ≡ a → wrongLength w d ≡ b → endsWell (d .ending) ≡ x → both a (both (not b) x) ≡ goesOn w d
@@ -67,16 +67,16 @@ module _ (w : Word) (d : Told) where
 
   module _ (c : Channel) where
     pub held-on : (b : Bool) (k : Channel) (n : ℕ) → b ≡ goesOn w d → b ≡ true → n ≡ stride (d .ending) → k ≡ onward c n
-        → record { stands = d .stands; orders = d .orders; channel = k } ≡ heldAfter c w d
+        → record { position = d .position; orders = d .orders; channel = k } ≡ heldAfter c w d
     unfolding heldAfter
     held-on b k n p q r s =
-        ap (λ (x : Channel). record { stands = d .stands; orders = d .orders; channel = x }) (s ∙ ap (onward c) r)
-        ∙ ap (λ (x : Bool). pick x (record { stands = d .stands; orders = d .orders; channel = onward c (stride (d .ending)) }) (rested (d .stands))) (sym q ∙ p)
+        ap (λ (x : Channel). record { position = d .position; orders = d .orders; channel = x }) (s ∙ ap (onward c) r)
+        ∙ ap (λ (x : Bool). pick x (record { position = d .position; orders = d .orders; channel = onward c (stride (d .ending)) }) (rested (d .position))) (sym q ∙ p)
 
-    pub held-rests : (b : Bool) → b ≡ goesOn w d → b ≡ false → rested (d .stands) ≡ heldAfter c w d
+    pub held-rests : (b : Bool) → b ≡ goesOn w d → b ≡ false → rested (d .position) ≡ heldAfter c w d
     unfolding heldAfter
     held-rests b p q =
-        ap (λ (x : Bool). pick x (record { stands = d .stands; orders = d .orders; channel = onward c (stride (d .ending)) }) (rested (d .stands))) (sym q ∙ p)
+        ap (λ (x : Bool). pick x (record { position = d .position; orders = d .orders; channel = onward c (stride (d .ending)) }) (rested (d .position))) (sym q ∙ p)
 
     pub storage-on : (b : Bool) (s : List ℕ) → b ≡ goesOn w d → b ≡ true → s ≡ withStatus c w d s
     unfolding withStatus

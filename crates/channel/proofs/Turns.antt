@@ -16,15 +16,15 @@ use Rattle.rows.specs.declared.{Row.Row}
 use Rattle.words.specs.declared.{Word.Word}
 use Rattle.words.specs.Words.{Reaches}
 use Rattle.pack.specs.declared.{Shape.Shape}
-use Rattle.held.specs.declared.{Held.Held, Stands.Stands, Orders.Orders}
-use Rattle.turn.specs.declared.{Moving.Moving, Told.Told}
-use Rattle.turn.specs.Turn.{Lies, Piece, Moves, None, Gives, Takes, alone, given, movingOf, filled, Turn, toldOf, laid, isCheck, checks}
+use Rattle.held.specs.declared.{Held.Held, Position.Position, Orders.Orders}
+use Rattle.turn.specs.declared.{Transfer.Transfer, Report.Report}
+use Rattle.turn.specs.Turn.{TrackArea, Piece, Moves, None, Gives, Takes, alone, given, transferOf, filled, Turn, reportOf, lay, isCheck, checkTurn}
 use Rattle.command.specs.declared.{Job.Job, Ready.Ready}
-use Rattle.command.specs.Command.{sight, acts, readies}
+use Rattle.command.specs.Command.{sight, actTurn, readyOf}
 use Rattle.command.proofs.Moves.{LaysBy, Lays, acts-lay, checks-lay, check-lays}
 use Rattle.command.proofs.Comes.{job-acts, row-ends}
 use Rattle.unit.specs.Unit.{Accepts}
-use Rattle.ending.specs.Ending.{failedAt}
+use Rattle.ending.specs.Ending.{checkReport}
 use Rattle.ending.proofs.Laws.{failed}
 use Rattle.channel.specs.Channel.{fetched, placed, heldAfter, withStatus, storageAfter, served, servedBy, turnOn, serves}
 use Rattle.channel.specs.Inside as Inside
@@ -72,16 +72,16 @@ module _ (j : Job) (w : Word) (s t : List ℕ) where
   sent = take (w .address + w .count - w .address) (drop (w .address) s)
 
   abbrev Of : Shape → List ℕ → Turn
-  Of g v = acts g (j .rule .act) (sight (alone t) j v)
+  Of g v = actTurn g (j .rule .act) (sight (alone t) j v)
 
   turn-is : (g : Shape) → Of g sent ≡ jobTurn g j w s t
   unfolding jobTurn fetched
   turn-is g = ap (Of g) (sent-is s (w .address) (w .count))
 
-  pub asked : (g : Shape) (d : Told) → d ≡ toldOf (acts g (j .rule .act) (sight (alone t) j sent)) → d ≡ toldOf (jobTurn g j w s t)
-  asked g d e = e ∙ ap toldOf (turn-is g)
+  pub asked : (g : Shape) (d : Report) → d ≡ reportOf (actTurn g (j .rule .act) (sight (alone t) j sent)) → d ≡ reportOf (jobTurn g j w s t)
+  asked g d e = e ∙ ap reportOf (turn-is g)
 
-  pub gave : (u : List ℕ) → Reaches s w → ((g : Shape) (v : List ℕ) → u ≡ filled sent 0 (given (acts g (j .rule .act) (sight (alone t) j v) .moves)))
+  pub gave : (u : List ℕ) → Reaches s w → ((g : Shape) (v : List ℕ) → u ≡ filled sent 0 (given (actTurn g (j .rule .act) (sight (alone t) j v) .moves)))
       → (g : Shape) → putMid (w .address) (w .address + w .count - w .address) s u ≡ placed s w (given (jobTurn g j w s t .moves))
   unfolding placed jobTurn
   gave u r e g = came-back s u _ _ (w .address) (w .count) (r .area) (e g (fetched s w)) refl
@@ -89,85 +89,85 @@ module _ (j : Job) (w : Word) (s t : List ℕ) where
   pub accepts : Inside.Takes j w s t → Accepts j sent t
   accepts h = record { shape = h .shape; ends = ap (λ (z : Turn). isCheck (z .ending)) (turn-is (h .shape)) ∙ h .ends }
 
-  pub laid-there : (u : List ℕ) → ((g : Shape) → u ≡ laid (acts g (j .rule .act) (sight (alone t) j sent) .lays) t) → (g : Shape) → u ≡ laid (jobTurn g j w s t .lays) t
-  laid-there u e g = e g ∙ ap (λ (z : Turn). laid (z .lays) t) (turn-is g)
+  pub laid-there : (u : List ℕ) → ((g : Shape) → u ≡ lay (actTurn g (j .rule .act) (sight (alone t) j sent) .lays) t) → (g : Shape) → u ≡ lay (jobTurn g j w s t .lays) t
+  laid-there u e g = e g ∙ ap (λ (z : Turn). lay (z .lays) t) (turn-is g)
 
 -- ---- one transfer is all of a turn
 
 -- by the number of bytes told: what lays nothing, and what gives nothing
-abbrev Alone : Moving → List ℕ → List Piece → Type 0
-Alone Moving.None v l = (v ≡ []) × (l ≡ [])
-Alone (Moving.Gives n) v l = l ≡ []
-Alone (Moving.Takes n) v l = v ≡ []
+abbrev Alone : Transfer → List ℕ → List Piece → Type 0
+Alone Transfer.None v l = (v ≡ []) × (l ≡ [])
+Alone (Transfer.Gives n) v l = l ≡ []
+Alone (Transfer.Takes n) v l = v ≡ []
 
-moves-alone : (m : Moves) (l : List Piece) → LaysBy m l → Alone (movingOf m) (given m) l
-unfolding movingOf given
+moves-alone : (m : Moves) (l : List Piece) → LaysBy m l → Alone (transferOf m) (given m) l
+unfolding transferOf given
 moves-alone None l h = (refl, h)
 moves-alone (Gives v) l h = h
 moves-alone (Takes n) l h = refl
 
-module _ (x : Turn) (d : Told) (m : Moving) (h : Lays x) (told : d ≡ toldOf x) where
-  by : d .moving ≡ m → Alone m (given (x .moves)) (x .lays)
-  unfolding toldOf
-  by e = subst (λ (z : Moving). Alone z (given (x .moves)) (x .lays)) (sym (ap (λ (z : Told). z .moving) told) ∙ e) (moves-alone (x .moves) (x .lays) (h .moves))
+module _ (x : Turn) (d : Report) (m : Transfer) (h : Lays x) (told : d ≡ reportOf x) where
+  by : d .transfer ≡ m → Alone m (given (x .moves)) (x .lays)
+  unfolding reportOf
+  by e = subst (λ (z : Transfer). Alone z (given (x .moves)) (x .lays)) (sym (ap (λ (z : Report). z .transfer) told) ∙ e) (moves-alone (x .moves) (x .lays) (h .moves))
 
-module _ (x : Turn) (d : Told) (h : Lays x) (told : d ≡ toldOf x) (w : Word) (s t : List ℕ) where
+module _ (x : Turn) (d : Report) (h : Lays x) (told : d ≡ reportOf x) (w : Word) (s t : List ℕ) where
   placed-none : given (x .moves) ≡ [] → s ≡ placed s w (given (x .moves))
   unfolding placed
   placed-none e = sym (ap (λ (v : List ℕ). overlay s (w .address) (take (w .count) v)) e ∙ ap (overlay s (w .address)) (take-nil (w .count)) ∙ overlay-none s (w .address))
 
-  laid-none : x .lays ≡ [] → t ≡ laid (x .lays) t
-  unfolding laid
-  laid-none e = sym (ap (λ (l : List Piece). laid l t) e)
+  laid-none : x .lays ≡ [] → t ≡ lay (x .lays) t
+  unfolding lay
+  laid-none e = sym (ap (λ (l : List Piece). lay l t) e)
 
-  pub none-moves : d .moving ≡ Moving.None → Turned x w s t s t d
-  none-moves e = let a = by x d Moving.None h told e in record { told = told; storage = placed-none (a .0); track = laid-none (a .1) }
+  pub none-moves : d .transfer ≡ Transfer.None → Turned x w s t s t d
+  none-moves e = let a = by x d Transfer.None h told e in record { told = told; storage = placed-none (a .0); track = laid-none (a .1) }
 
-  pub gives-moves : (n : ℕ) (s′ : List ℕ) → d .moving ≡ Moving.Gives n → s′ ≡ placed s w (given (x .moves)) → Turned x w s t s′ t d
-  gives-moves n s′ e p = record { told = told; storage = p; track = laid-none (by x d (Moving.Gives n) h told e) }
+  pub gives-moves : (n : ℕ) (s′ : List ℕ) → d .transfer ≡ Transfer.Gives n → s′ ≡ placed s w (given (x .moves)) → Turned x w s t s′ t d
+  gives-moves n s′ e p = record { told = told; storage = p; track = laid-none (by x d (Transfer.Gives n) h told e) }
 
-  pub takes-moves : (n : ℕ) (t′ : List ℕ) → d .moving ≡ Moving.Takes n → t′ ≡ laid (x .lays) t → Turned x w s t s t′ d
-  takes-moves n t′ e p = record { told = told; storage = placed-none (by x d (Moving.Takes n) h told e); track = p }
+  pub takes-moves : (n : ℕ) (t′ : List ℕ) → d .transfer ≡ Transfer.Takes n → t′ ≡ lay (x .lays) t → Turned x w s t s t′ d
+  takes-moves n t′ e p = record { told = told; storage = placed-none (by x d (Transfer.Takes n) h told e); track = p }
 
 -- a Unit Check lays nothing
-pub check-laid : (x : Turn) (d : Told) (t : List ℕ) (b : Bool) → Lays x → d ≡ toldOf x → b ≡ isCheck (d .ending) → b ≡ true → t ≡ laid (x .lays) t
-unfolding toldOf laid
+pub check-laid : (x : Turn) (d : Report) (t : List ℕ) (b : Bool) → Lays x → d ≡ reportOf x → b ≡ isCheck (d .ending) → b ≡ true → t ≡ lay (x .lays) t
+unfolding reportOf lay
 check-laid x d t b h told e f =
-    sym (ap (λ (l : List Piece). laid l t) (check-lays x h (sym (ap (λ (z : Told). isCheck (z .ending)) told) ∙ sym e ∙ f)))
+    sym (ap (λ (l : List Piece). lay l t) (check-lays x h (sym (ap (λ (z : Report). isCheck (z .ending)) told) ∙ sym e ∙ f)))
 
 pub job-lay : (g : Shape) (j : Job) (w : Word) (s t : List ℕ) → Lays (jobTurn g j w s t)
 unfolding jobTurn
 job-lay g j w s t = acts-lay (sight (alone t) j (fetched s w)) g (j .rule .act)
 
-pub not-check : (g : Shape) (j : Job) (w : Word) (s t : List ℕ) (d : Told) (b : Bool) → d ≡ toldOf (jobTurn g j w s t) → b ≡ isCheck (d .ending) → b ≡ false
+pub not-check : (g : Shape) (j : Job) (w : Word) (s t : List ℕ) (d : Report) (b : Bool) → d ≡ reportOf (jobTurn g j w s t) → b ≡ isCheck (d .ending) → b ≡ false
     → Inside.Takes j w s t
-unfolding toldOf
-not-check g j w s t d b told e f = record { shape = g; ends = sym (ap (λ (z : Told). isCheck (z .ending)) told) ∙ sym e ∙ f }
+unfolding reportOf
+not-check g j w s t d b told e f = record { shape = g; ends = sym (ap (λ (z : Report). isCheck (z .ending)) told) ∙ sym e ∙ f }
 
 -- ---- a command
 
 -- a Unit Check: nothing is given and nothing laid
-fails-turned : (st : Stands) (o : Orders) (l : List Lies) (row : Row) (w : Word) (s t : List ℕ) (d : Told) → d ≡ failedAt st o row
-    → Turned (checks st o l row) w s t s t d
-unfolding checks given laid
+fails-turned : (st : Position) (o : Orders) (l : List TrackArea) (row : Row) (w : Word) (s t : List ℕ) (d : Report) → d ≡ checkReport st o row
+    → Turned (checkTurn st o l row) w s t s t d
+unfolding checkTurn given lay
 fails-turned st o l row w s t d e =
-    let told : d ≡ toldOf (checks st o l row) = e ∙ sym (failed st o l row) in
-    record { told = told; storage = placed-none (checks st o l row) d (checks-lay st o l row) told w s t refl; track = refl }
+    let told : d ≡ reportOf (checkTurn st o l row) = e ∙ sym (failed st o l row) in
+    record { told = told; storage = placed-none (checkTurn st o l row) d (checks-lay st o l row) told w s t refl; track = refl }
 
-module _ (g : Shape) (h : Held) (w : Word) (s t : List ℕ) (x : Ready) (ready : x ≡ readies (alone t) (h .stands) (h .orders) (w .code)) where
-  pub row-turned : (row : Row) (d : Told) → x ≡ Ready.Refuses row → d ≡ failedAt (h .stands) (h .orders) row → Turned (turnOn g h w s t) w s t s t d
+module _ (g : Shape) (h : Held) (w : Word) (s t : List ℕ) (x : Ready) (ready : x ≡ readyOf (alone t) (h .position) (h .orders) (w .code)) where
+  pub row-turned : (row : Row) (d : Report) → x ≡ Ready.Refuses row → d ≡ checkReport (h .position) (h .orders) row → Turned (turnOn g h w s t) w s t s t d
   unfolding turnOn
   row-turned row d q e =
-      subst (λ (z : Turn). Turned z w s t s t d) (row-ends (alone t) (h .stands) (h .orders) (w .code) row (sym q ∙ ready) g (fetched s w))
-      (fails-turned (h .stands) (h .orders) _ row w s t d e)
+      subst (λ (z : Turn). Turned z w s t s t d) (row-ends (alone t) (h .position) (h .orders) (w .code) row (sym q ∙ ready) g (fetched s w))
+      (fails-turned (h .position) (h .orders) _ row w s t d e)
 
-  pub job-turned : (j : Job) (s′ t′ : List ℕ) (d : Told) → x ≡ Ready.Acts j → Turned (jobTurn g j w s t) w s t s′ t′ d
+  pub job-turned : (j : Job) (s′ t′ : List ℕ) (d : Report) → x ≡ Ready.Acts j → Turned (jobTurn g j w s t) w s t s′ t′ d
       → Turned (turnOn g h w s t) w s t s′ t′ d
   unfolding turnOn jobTurn
   job-turned j s′ t′ d q e =
-      subst (λ (z : Turn). Turned z w s t s′ t′ d) (job-acts (alone t) (h .stands) (h .orders) (w .code) j (sym q ∙ ready) g (fetched s w)) e
+      subst (λ (z : Turn). Turned z w s t s′ t′ d) (job-acts (alone t) (h .position) (h .orders) (w .code) j (sym q ∙ ready) g (fetched s w)) e
 
-pub obeys : (g : Shape) (h r : Held) (w : Word) (s t s′ t′ s″ : List ℕ) (d : Told) → Turned (turnOn g h w s t) w s t s′ t′ d
+pub obeys : (g : Shape) (h r : Held) (w : Word) (s t s′ t′ s″ : List ℕ) (d : Report) → Turned (turnOn g h w s t) w s t s′ t′ d
     → r ≡ heldAfter (h .channel) w d → s″ ≡ withStatus (h .channel) w d s′ → served r s″ t′ ≡ serves g h w s t
 unfolding serves servedBy storageAfter
 obeys g h r w s t s′ t′ s″ d T p q =

@@ -13,8 +13,8 @@ use Rattle.words.specs.Status.{stored, statusFor}
 use Rattle.pack.specs.declared.{Shape.Shape}
 use Rattle.held.specs.declared.{Channel.Channel, Held.Held}
 use Rattle.held.specs.Held.{rested}
-use Rattle.turn.specs.declared.{Ending.Ending, Moving.Moving, Told.Told}
-use Rattle.turn.specs.Turn.{alone, given, wants, Turn, toldOf, isCheck, laid}
+use Rattle.turn.specs.declared.{Ending.Ending, Transfer.Transfer, Report.Report}
+use Rattle.turn.specs.Turn.{alone, given, wants, Turn, reportOf, isCheck, lay}
 use Rattle.command.specs.Command.{command}
 
 -- ---- bytes: those at a word's address; those given, placed there, as many as its count says
@@ -27,22 +27,22 @@ placed s w v = overlay s (w .address) (take (w .count) v)
 
 -- ---- lengths
 
-unfoldable pub moved : Word → Told → ℕ
-moved w d = min (w .count) (wants (d .moving))
+unfoldable pub bytesMoved : Word → Report → ℕ
+bytesMoved w d = min (w .count) (wants (d .transfer))
 
 -- not for No-op, Space Record or Unit Check
-unfoldable pub moves : Moving → Bool
-moves Moving.None = false
-moves (Moving.Gives n) = true
-moves (Moving.Takes n) = true
+unfoldable pub movesAny : Transfer → Bool
+movesAny Transfer.None = false
+movesAny (Transfer.Gives n) = true
+movesAny (Transfer.Takes n) = true
 
-unfoldable pub lengthCounts : Told → Bool
-lengthCounts d = both (moves (d .moving)) (not (isCheck (d .ending)))
+unfoldable pub lengthCounts : Report → Bool
+lengthCounts d = both (movesAny (d .transfer)) (not (isCheck (d .ending)))
 
 -- count left is not 0, or the device wanted more, and flag 20 is off
-unfoldable pub wrongLength : Word → Told → Bool
+unfoldable pub wrongLength : Word → Report → Bool
 wrongLength w d =
-    both (lengthCounts d) (both (not (suppresses w)) (either (ltb (moved w d) (w .count)) (ltb (w .count) (wants (d .moving)))))
+    both (lengthCounts d) (both (not (suppresses w)) (either (ltb (bytesMoved w d) (w .count)) (ltb (w .count) (wants (d .transfer)))))
 
 -- ---- by how it ended
 
@@ -69,30 +69,30 @@ stride (Ending.Check row) = 8
 
 -- ---- the end of a command: the chain goes on, or is at its end
 
-unfoldable pub goesOn : Word → Told → Bool
+unfoldable pub goesOn : Word → Report → Bool
 goesOn w d = both (chains w) (both (not (wrongLength w d)) (endsWell (d .ending)))
 
 -- the channel goes on to a word so many bytes on, which comes after no TIC
 unfoldable pub onward : Channel → ℕ → Channel
 onward c n = record { going = c .going; key = c .key; next = along (c .next) n; «after_tic» = false }
 
-unfoldable pub heldAfter : Channel → Word → Told → Held
+unfoldable pub heldAfter : Channel → Word → Report → Held
 heldAfter c w d =
     pick (goesOn w d)
-    (record { stands = d .stands; orders = d .orders; channel = onward c (stride (d .ending)) })
-    (rested (d .stands))
+    (record { position = d .position; orders = d .orders; channel = onward c (stride (d .ending)) })
+    (rested (d .position))
 
 -- count left is count less bytes moved; channel status 40 is incorrect length
-unfoldable pub statusAfter : Channel → Word → Told → Status
+unfoldable pub statusAfter : Channel → Word → Report → Status
 statusAfter c w d =
-    statusFor (c .key) (c .next) (unitStatus (d .ending)) (pick (wrongLength w d) 0x40 0x00) (w .count - moved w d)
+    statusFor (c .key) (c .next) (unitStatus (d .ending)) (pick (wrongLength w d) 0x40 0x00) (w .count - bytesMoved w d)
 
 -- the status word is stored last, at the chain's end
-unfoldable pub withStatus : Channel → Word → Told → List ℕ → List ℕ
+unfoldable pub withStatus : Channel → Word → Report → List ℕ → List ℕ
 withStatus c w d s = pick (goesOn w d) s (stored s (statusAfter c w d))
 
 unfoldable pub storageAfter : Channel → Word → Turn → List ℕ → List ℕ
-storageAfter c w t s = withStatus c w (toldOf t) (placed s w (given (t .moves)))
+storageAfter c w t s = withStatus c w (reportOf t) (placed s w (given (t .moves)))
 
 -- ---- a word to obey, on the track under the head: what is held then, and what is left of storage and of the track
 
@@ -105,11 +105,11 @@ abbrev pub served : Held → List ℕ → List ℕ → Served
 served h s t = record { held = h; storage = s; track = t }
 
 unfoldable pub servedBy : Held → Word → List ℕ → List ℕ → Turn → Served
-servedBy h w s t x = served (heldAfter (h .channel) w (toldOf x)) (storageAfter (h .channel) w x s) (laid (x .lays) t)
+servedBy h w s t x = served (heldAfter (h .channel) w (reportOf x)) (storageAfter (h .channel) w x s) (lay (x .lays) t)
 
 -- the turn of its command, with the bytes at its address sent
 unfoldable pub turnOn : Shape → Held → Word → List ℕ → List ℕ → Turn
-turnOn g h w s t = command g (alone t) (h .stands) (h .orders) (w .code) (fetched s w)
+turnOn g h w s t = command g (alone t) (h .position) (h .orders) (w .code) (fetched s w)
 
 unfoldable pub serves : Shape → Held → Word → List ℕ → List ℕ → Served
 serves g h w s t = servedBy h w s t (turnOn g h w s t)

@@ -8,19 +8,19 @@ use Rattle.cells.specs.Cells.{marks}
 use Rattle.words.specs.declared.{Word.Word}
 use Rattle.words.specs.Words.{wordBytes, Reaches}
 use Rattle.words.specs.Status.{statusAt}
-use Rattle.hunt.specs.Hunt.{Whole}
+use Rattle.hunt.specs.Hunt.{WholeTrack}
 use Rattle.pack.specs.declared.{Shape.Shape}
 use Rattle.held.specs.declared.{Held.Held}
 use Rattle.command.specs.Command.{SelectedOn}
-use Rattle.turn.specs.declared.{Told.Told}
-use Rattle.turn.specs.Turn.{alone, given, Turn, toldOf, laid, isCheck}
+use Rattle.turn.specs.declared.{Report.Report}
+use Rattle.turn.specs.Turn.{alone, given, Turn, reportOf, lay, isCheck}
 use Rattle.command.specs.declared.{Job.Job}
-use Rattle.command.specs.Command.{sight, acts}
+use Rattle.command.specs.Command.{sight, actTurn}
 use Rattle.channel.specs.Channel.{fetched, placed}
 
 -- the turn of a job, with the bytes at a word's address sent
 unfoldable pub jobTurn : Shape → Job → Word → List ℕ → List ℕ → Turn
-jobTurn g j w s t = acts g (j .rule .act) (sight (alone t) j (fetched s w))
+jobTurn g j w s t = actTurn g (j .rule .act) (sight (alone t) j (fetched s w))
 
 -- it does not end in Unit Check
 pub record Takes (j : Job) (w : Word) (s t : List ℕ) : Type 0 where
@@ -28,19 +28,19 @@ pub record Takes (j : Job) (w : Word) (s t : List ℕ) : Type 0 where
   pub ends : isCheck (jobTurn shape j w s t .ending) ≡ false
 
 -- this was told of it
-pub record Asked (g : Shape) (j : Job) (w : Word) (s t : List ℕ) (d : Told) : Type 0 where
-  pub told : d ≡ toldOf (jobTurn g j w s t)
+pub record Asked (g : Shape) (j : Job) (w : Word) (s t : List ℕ) (d : Report) : Type 0 where
+  pub told : d ≡ reportOf (jobTurn g j w s t)
 
 -- a turn was told, its bytes were placed, and its cells were laid
-pub record Turned (x : Turn) (w : Word) (s t s′ t′ : List ℕ) (d : Told) : Type 0 where
-  pub told : d ≡ toldOf x
+pub record Turned (x : Turn) (w : Word) (s t s′ t′ : List ℕ) (d : Report) : Type 0 where
+  pub told : d ≡ reportOf x
   pub storage : s′ ≡ placed s w (given (x .moves))
-  pub track : t′ ≡ laid (x .lays) t
+  pub track : t′ ≡ lay (x .lays) t
 
 -- what the channel needs of storage, the word and the track to obey it
-pub record Serves (h : Held) (w : Word) (s t : List ℕ) : Type 0 where
+pub record CanObey (h : Held) (w : Word) (s t : List ℕ) : Type 0 where
   pub room : statusAt + wordBytes ≤ length s
   pub key : h .channel .key < 16
   pub reaches : Reaches s w
-  pub whole : Whole t
+  pub whole : WholeTrack t
   pub selected : SelectedOn (marks t) (h .orders .selection)

@@ -5,21 +5,21 @@ use held::Channel;
 use held::Held;
 use pack::Shape;
 use turn::Ending;
-use turn::Moving;
-use turn::Told;
+use turn::Report;
+use turn::Transfer;
 use words::Status;
 use words::Word;
 ghost use mathlib.Core.Path.{_≡_};
 ghost use Prim.Native.Nat.{_<_, _≤_};
 ghost use lib.ListN.{length};
 ghost use Rattle.cells.specs.Choice.{pick};
-ghost use Rattle.turn.specs.Turn.{alone, given, wants, toldOf, laid, isCheck};
+ghost use Rattle.turn.specs.Turn.{alone, given, wants, reportOf, lay, isCheck};
 ghost use Rattle.cells.specs.Cells.{marks};
 ghost use Rattle.words.specs.Words.{Reaches};
-ghost use Rattle.hunt.specs.Hunt.{Whole};
+ghost use Rattle.hunt.specs.Hunt.{WholeTrack};
 ghost use Rattle.command.specs.Command.{SelectedOn, Sighted};
-ghost use Rattle.channel.specs.Channel.{unitStatus, endsWell, stride, onward, placed, moved, moves, lengthCounts, wrongLength, goesOn, heldAfter, statusAfter, withStatus, turnOn, served, serves};
-ghost use Rattle.channel.specs.Inside.{jobTurn, Takes, Asked, Turned, Serves};
+ghost use Rattle.channel.specs.Channel.{unitStatus, endsWell, stride, onward, placed, bytesMoved, movesAny, lengthCounts, wrongLength, goesOn, heldAfter, statusAfter, withStatus, turnOn, served, serves};
+ghost use Rattle.channel.specs.Inside.{jobTurn, Takes, Asked, Turned, CanObey};
 
 // Flags of a command word: go on to the next, and incorrect length is none.
 const CHAINS: u8 = 0x40;
@@ -83,26 +83,26 @@ fn is_check(e: Ending) -> bool
 }
 
 // How many bytes the device wants, in either direction.
-fn wants(m: Moving) -> u32
+fn wants(m: Transfer) -> u32
     ensures { λ r. ⌜ r ≡ wants m ⌝ }
 {
     match m {
-        Moving::None => 0,
-        Moving::Gives(n) => n,
-        Moving::Takes(n) => n,
+        Transfer::None => 0,
+        Transfer::Gives(n) => n,
+        Transfer::Takes(n) => n,
     }
 }
 
-fn moves(m: Moving) -> bool
-    ensures { λ r. ⌜ r ≡ moves m ⌝ }
+fn moves_any(m: Transfer) -> bool
+    ensures { λ r. ⌜ r ≡ movesAny m ⌝ }
 {
-    if let Moving::None = m { false } else { true }
+    if let Transfer::None = m { false } else { true }
 }
 
-fn moved(w: Word, d: Told) -> u16
-    ensures { λ r. ⌜ r ≡ moved w d ⌝ }
+fn bytes_moved(w: Word, d: Report) -> u16
+    ensures { λ r. ⌜ r ≡ bytesMoved w d ⌝ }
 {
-    let m = d.moving;
+    let m = d.transfer;
     let wanted = wants(m);
     if wanted < w.count as u32 {
         return wanted as u16;
@@ -110,23 +110,23 @@ fn moved(w: Word, d: Told) -> u16
     w.count
 }
 
-fn length_counts(d: Told) -> bool
+fn length_counts(d: Report) -> bool
     ensures { λ r. ⌜ r ≡ lengthCounts d ⌝ }
 {
-    let m = d.moving;
+    let m = d.transfer;
     let e = d.ending;
-    moves(m) && !is_check(e)
+    moves_any(m) && !is_check(e)
 }
 
 // Whether a command is of incorrect length, and flag 20 is off.
-fn wrong_length(w: Word, d: Told) -> bool
+fn wrong_length(w: Word, d: Report) -> bool
     ensures { λ r. ⌜ r ≡ wrongLength w d ⌝ }
 {
-    let m = d.moving;
+    let m = d.transfer;
     length_counts(d) && (w.flags / SUPPRESSES % 2 != 1 && wants(m) != w.count as u32)
 }
 
-fn goes_on(w: Word, d: Told) -> bool
+fn goes_on(w: Word, d: Report) -> bool
     ensures { λ r. ⌜ r ≡ goesOn w d ⌝ }
 {
     let e = d.ending;
@@ -145,46 +145,46 @@ fn onward(c: Channel, n: u32) -> Channel
     }
 }
 
-fn length_status(w: Word, d: Told) -> u8
+fn length_status(w: Word, d: Report) -> u8
     ensures { λ r. ⌜ r ≡ pick (wrongLength w d) 0x40 0x00 ⌝ }
 {
     if wrong_length(w, d) { WRONG_LENGTH } else { 0 }
 }
 
-fn status_after(c: Channel, w: Word, d: Told) -> Status
+fn status_after(c: Channel, w: Word, d: Report) -> Status
     ensures { λ r. ⌜ r ≡ statusAfter c w d ⌝ }
 {
     let e = d.ending;
     let unit = unit_status(e);
     let channel = length_status(w, d);
-    let left = w.count - moved(w, d);
+    let left = w.count - bytes_moved(w, d);
     words::status_for(c.key, c.next, unit, channel, left)
 }
 
 // The end of a command: the chain goes on, or its status word is stored and it is at its end.
-fn settle(c: Channel, w: Word, d: Told, storage: &mut [u8]) -> Held
+fn settle(c: Channel, w: Word, d: Report, storage: &mut [u8]) -> Held
     requires { ⌜ (72 ≤ length (now storage)) × (c .key < 16) ⌝ }
     ensures { λ r. ⌜ (r ≡ heldAfter c w d) × (now (storage .exit) ≡ withStatus c w d (now (storage .entry))) ⌝ }
 {
-    let stands = d.stands;
+    let position = d.position;
     if goes_on(w, d) {
         let e = d.ending;
         let orders = d.orders;
         let channel = onward(c, stride(e));
         return Held {
-            stands,
+            position,
             orders,
             channel,
         };
     }
     words::store_status(storage, status_after(c, w, d));
-    Held::rested(stands)
+    Held::rested(position)
 }
 
 // What a job tells of the bytes at a word's address.
-fn ask(g: Shape, j: Job, w: Word, storage: &[u8], track: &[u16]) -> Told
-    requires { ⌜ Reaches (now storage) w × Whole (now track) × Sighted (alone (now track)) j ⌝ }
-    ensures { λ r. ⌜ r ≡ toldOf (jobTurn g j w (now (storage .entry)) (now (track .entry))) ⌝ }
+fn ask(g: Shape, j: Job, w: Word, storage: &[u8], track: &[u16]) -> Report
+    requires { ⌜ Reaches (now storage) w × WholeTrack (now track) × Sighted (alone (now track)) j ⌝ }
+    ensures { λ r. ⌜ r ≡ reportOf (jobTurn g j w (now (storage .entry)) (now (track .entry))) ⌝ }
 {
     let at = w.address as usize;
     let end = at + w.count as usize;
@@ -203,8 +203,8 @@ fn place(j: Job, w: Word, storage: &mut [u8], track: &[u16])
 
 // The cells that a job lays, of the bytes at a word's address.
 fn lay(j: Job, w: Word, storage: &[u8], track: &mut [u16])
-    requires { ⌜ Reaches (now storage) w × Whole (now track) × Sighted (alone (now track)) j × Takes j w (now storage) (now track) ⌝ }
-    ensures { λ _. ⌜ ((g : Shape) → now (track .exit) ≡ laid (jobTurn g j w (now (storage .entry)) (now (track .entry)) .lays) (now (track .entry))) ⌝ }
+    requires { ⌜ Reaches (now storage) w × WholeTrack (now track) × Sighted (alone (now track)) j × Takes j w (now storage) (now track) ⌝ }
+    ensures { λ _. ⌜ ((g : Shape) → now (track .exit) ≡ lay (jobTurn g j w (now (storage .entry)) (now (track .entry)) .lays) (now (track .entry))) ⌝ }
 {
     let at = w.address as usize;
     let end = at + w.count as usize;
@@ -212,9 +212,9 @@ fn lay(j: Job, w: Word, storage: &[u8], track: &mut [u16])
 }
 
 // What is laid, unless the command ends in Unit Check.
-fn take(g: Shape, j: Job, w: Word, d: Told, storage: &[u8], track: &mut [u16])
-    requires { ⌜ Reaches (now storage) w × Whole (now track) × Sighted (alone (now track)) j × Asked g j w (now storage) (now track) d ⌝ }
-    ensures { λ _. ⌜ now (track .exit) ≡ laid (jobTurn g j w (now (storage .entry)) (now (track .entry)) .lays) (now (track .entry)) ⌝ }
+fn take(g: Shape, j: Job, w: Word, d: Report, storage: &[u8], track: &mut [u16])
+    requires { ⌜ Reaches (now storage) w × WholeTrack (now track) × Sighted (alone (now track)) j × Asked g j w (now storage) (now track) d ⌝ }
+    ensures { λ _. ⌜ now (track .exit) ≡ lay (jobTurn g j w (now (storage .entry)) (now (track .entry)) .lays) (now (track .entry)) ⌝ }
 {
     let e = d.ending;
     if is_check(e) {
@@ -224,43 +224,43 @@ fn take(g: Shape, j: Job, w: Word, d: Told, storage: &[u8], track: &mut [u16])
 }
 
 // A job that was asked gives its bytes, or lays what it took.
-fn transfer(g: Shape, j: Job, w: Word, d: Told, storage: &mut [u8], track: &mut [u16])
-    requires { ⌜ Reaches (now storage) w × Whole (now track) × Sighted (alone (now track)) j × Asked g j w (now storage) (now track) d ⌝ }
+fn move_bytes(g: Shape, j: Job, w: Word, d: Report, storage: &mut [u8], track: &mut [u16])
+    requires { ⌜ Reaches (now storage) w × WholeTrack (now track) × Sighted (alone (now track)) j × Asked g j w (now storage) (now track) d ⌝ }
     ensures { λ _. ⌜ Turned (jobTurn g j w (now (storage .entry)) (now (track .entry))) w (now (storage .entry)) (now (track .entry)) (now (storage .exit)) (now (track .exit)) d ⌝ }
 {
-    let m = d.moving;
+    let m = d.transfer;
     match m {
-        Moving::None => {}
-        Moving::Gives(_) => place(j, w, storage, track),
-        Moving::Takes(_) => take(g, j, w, d, storage, track),
+        Transfer::None => {}
+        Transfer::Gives(_) => place(j, w, storage, track),
+        Transfer::Takes(_) => take(g, j, w, d, storage, track),
     }
 }
 
-fn act(g: Shape, j: Job, w: Word, storage: &mut [u8], track: &mut [u16]) -> Told
-    requires { ⌜ Reaches (now storage) w × Whole (now track) × Sighted (alone (now track)) j ⌝ }
+fn act(g: Shape, j: Job, w: Word, storage: &mut [u8], track: &mut [u16]) -> Report
+    requires { ⌜ Reaches (now storage) w × WholeTrack (now track) × Sighted (alone (now track)) j ⌝ }
     ensures { λ r. ⌜ Turned (jobTurn g j w (now (storage .entry)) (now (track .entry))) w (now (storage .entry)) (now (track .entry)) (now (storage .exit)) (now (track .exit)) r ⌝ }
 {
     let d = ask(g, j, w, storage, track);
-    transfer(g, j, w, d, storage, track);
+    move_bytes(g, j, w, d, storage, track);
     d
 }
 
 // A command has its turn on a track.
-fn turn(g: Shape, h: Held, w: Word, storage: &mut [u8], track: &mut [u16]) -> Told
-    requires { ⌜ Reaches (now storage) w × Whole (now track) × SelectedOn (marks (now track)) (h .orders .selection) ⌝ }
+fn turn(g: Shape, h: Held, w: Word, storage: &mut [u8], track: &mut [u16]) -> Report
+    requires { ⌜ Reaches (now storage) w × WholeTrack (now track) × SelectedOn (marks (now track)) (h .orders .selection) ⌝ }
     ensures { λ r. ⌜ Turned (turnOn g h w (now (storage .entry)) (now (track .entry))) w (now (storage .entry)) (now (track .entry)) (now (storage .exit)) (now (track .exit)) r ⌝ }
 {
-    let stands = h.stands;
+    let position = h.position;
     let orders = h.orders;
-    match unit::ready(w.code, track, stands, orders) {
-        Ready::Refuses(row) => ending::failed(stands, orders, row),
+    match unit::ready(w.code, track, position, orders) {
+        Ready::Refuses(row) => ending::failed(position, orders, row),
         Ready::Acts(j) => act(g, j, w, storage, track),
     }
 }
 
 // A word to obey: its command has its turn on the track under the head, and the channel ends it.
 pub fn obey(g: Shape, h: Held, w: Word, storage: &mut [u8], track: &mut [u16]) -> Held
-    requires { ⌜ Serves h w (now storage) (now track) ⌝ }
+    requires { ⌜ CanObey h w (now storage) (now track) ⌝ }
     ensures { λ r. ⌜ served r (now (storage .exit)) (now (track .exit)) ≡ serves g h w (now (storage .entry)) (now (track .entry)) ⌝ }
 {
     let d = turn(g, h, w, storage, track);

@@ -19,10 +19,10 @@ use Rattle.areas.specs.declared.{Area.Area, Counts.Counts}
 use Rattle.areas.specs.Areas.{keyArea, dataArea}
 use Rattle.pack.specs.declared.{Head.Head}
 use Rattle.command.specs.Command.{areaIf, named}
-use Rattle.laying.specs.Laying.{recorded, formatted}
-use Rattle.laying.proofs.Laws.{length-area, formatted-is, recorded-lies}
-use Rattle.turn.specs.Turn.{Piece, laid}
-use Rattle.command.specs.Command.{Sight, piece, toEnd, over, keySent, allRecorded}
+use Rattle.format.specs.Format.{recorded, formatted}
+use Rattle.format.proofs.Laws.{length-area, formatted-is, recorded-lies}
+use Rattle.turn.specs.Turn.{Piece, lay}
+use Rattle.command.specs.Command.{Sight, piece, toEnd, overPiece, keySent, allRecorded}
 
 -- ---- pieces on the track under a head
 
@@ -35,8 +35,8 @@ pieces-append h [] r p q = q
 pieces-append h (x ∷ l) r p q = (p .0, p .1, pieces-append h l r (p .2) q)
 
 -- the track keeps its length
-pub length-laid : (h : Head) (l : List Piece) (t : List ℕ) → PiecesOn h l → length t ≡ trackCells → length (laid l t) ≡ trackCells
-unfolding laid
+pub length-laid : (h : Head) (l : List Piece) (t : List ℕ) → PiecesOn h l → length t ≡ trackCells → length (lay l t) ≡ trackCells
+unfolding lay
 length-laid h [] t p e = e
 length-laid h (x ∷ l) t p e =
     length-laid h l (overlay t (x .first) (x .cells)) (p .2) (length-overlay t (x .first) (x .cells) (omega (arith, p .1, e)) ∙ e)
@@ -96,12 +96,12 @@ module _ (t : List ℕ) where
       }
 
 module _ (x : Sight) (h : Head) (same : x .job .task .head ≡ h) where
-  pub over-on : (a : Area) (from n : ℕ) → (0 < n → a .first + n + 2 ≤ trackCells) → PiecesOn h (over x a from n)
-  unfolding over piece
+  pub over-on : (a : Area) (from n : ℕ) → (0 < n → a .first + n + 2 ≤ trackCells) → PiecesOn h (overPiece x a from n)
+  unfolding overPiece piece
   over-on a from n inside = go (ltb 0 n) refl
     where
       go : (b : Bool) → ltb 0 n ≡ b
-          → PiecesOn h (pick b (record { head = x .job .task .head; first = a .first; cells = Area.laid (padded n (part (x .sent) from n)) } ∷ []) [])
+          → PiecesOn h (pick b (record { head = x .job .task .head; first = a .first; cells = Area.cellsWithCheck (padded n (part (x .sent) from n)) } ∷ []) [])
       go true e = (same, omega (arith, inside (ltb-true 0 n e), length-area n (part (x .sent) from n)), tt)
       go false e = tt
 
@@ -112,9 +112,9 @@ keys-sent false n h = absurd (omega arith)
 
 pub update-on : (x : Sight) (h : Head) (t : List ℕ) (key : Bool) (c : ℕ) (n : Counts) → x .job .task .head ≡ h → length t ≡ trackCells
     → allRecorded t (named c key true n) ≡ true
-    → PiecesOn h (over x (keyArea c n) 0 (keySent key n) ++ over x (dataArea c n) (keySent key n) (n .dl))
+    → PiecesOn h (overPiece x (keyArea c n) 0 (keySent key n) ++ overPiece x (dataArea c n) (keySent key n) (n .dl))
 update-on x h t key c n same e rec =
     let O = over-in t key c n rec in
-    pieces-append h (over x (keyArea c n) 0 (keySent key n)) _
+    pieces-append h (overPiece x (keyArea c n) 0 (keySent key n)) _
     (over-on x h same (keyArea c n) 0 (keySent key n) (λ k. omega (arith, O .key-in k, e, keys-sent key n k)))
     (over-on x h same (dataArea c n) (keySent key n) (n .dl) (λ k. omega (arith, O .data-in k, e)))

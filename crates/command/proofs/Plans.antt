@@ -13,9 +13,9 @@ use Rattle.cells.proofs.Tests.{pick-all}
 use Rattle.rows.specs.declared.{Row.Row}
 use Rattle.mask.specs.Mask.{barsSeek, barsWrite}
 use Rattle.hunt.specs.declared.{Spot.Spot, Next.Next}
-use Rattle.hunt.specs.Hunt.{Whole, spotFits, countFirst, nextRecord, nextId}
+use Rattle.hunt.specs.Hunt.{WholeTrack, spotFits, countFirst, nextRecord, nextId}
 use Rattle.hunt.proofs.Inside.{NextOn, next-on, id-on, spot-in}
-use Rattle.held.specs.declared.{Selection.Selection, Stands.Stands, Orders.Orders}
+use Rattle.held.specs.declared.{Selection.Selection, Position.Position, Orders.Orders}
 use Rattle.held.specs.declared.Selection.the-variants.{Nothing, On}
 use Rattle.command.specs.Command.{mostTally, SelectedOn}
 use Rattle.table.specs.declared.{Bar.Bar, Aim.Aim, Rule.Rule}
@@ -23,7 +23,7 @@ use Rattle.table.specs.Table.{ruleOf, servesData, servesKey}
 use Rattle.turn.specs.Turn.{Tracks}
 use Rattle.command.specs.declared.{Task.Task, Plan.Plan}
 use Rattle.command.specs.declared.Plan.the-variants.{Refuses, Works}
-use Rattle.command.specs.Command.{Marks, marksOf, licensed, task, tallies, onRecord, onNext, onSelected, toNext, toServed, aimed, unlessBarred, plans}
+use Rattle.command.specs.Command.{Marks, marksOf, licensed, task, tallies, onRecord, onNext, onSelected, toNext, toServed, aimed, unlessBarred, planOf}
 
 -- ---- a command that takes no record selects none
 
@@ -48,17 +48,17 @@ abbrev pub Leaves : List Bool → Bool → Selection → Type 0
 Leaves m selects Nothing = selects ≡ false
 Leaves m selects (On spot) = spotFits m spot ≡ true
 
-pub record TaskOn (m : List Bool) (r : Rule) (s : Stands) (k : Task) : Type 0 where
+pub record TaskOn (m : List Bool) (r : Rule) (s : Position) (k : Task) : Type 0 where
   pub here : k .head ≡ s .head
   pub place : k .place ≤ trackCells
   pub tally : k .tally ≤ mostTally
   pub leaves : Leaves m (r .selects) (k .selection)
 
-abbrev pub PlanOn : List Bool → Rule → Stands → Plan → Type 0
+abbrev pub PlanOn : List Bool → Rule → Position → Plan → Type 0
 PlanOn m r s (Refuses row) = Unit {0}
 PlanOn m r s (Works k) = TaskOn m r s k
 
-module _ (tr : Tracks) (r : Rule) (s : Stands) (o : Orders) (wh : Whole (tr (s .head))) (sel : SelectedOn (marks (tr (s .head))) (o .selection)) where
+module _ (tr : Tracks) (r : Rule) (s : Position) (o : Orders) (wh : WholeTrack (tr (s .head))) (sel : SelectedOn (marks (tr (s .head))) (o .selection)) where
   abbrev t : List ℕ
   t = tr (s .head)
 
@@ -78,7 +78,7 @@ module _ (tr : Tracks) (r : Rule) (s : Stands) (o : Orders) (wh : Whole (tr (s .
 
   to-on : (x : Next) → NextOn (marks t) x → PlanOn (marks t) r s (onNext r o (s .head) x)
   unfolding onNext
-  to-on (Next.Stands spot n) h = record-on spot n h
+  to-on (Next.ComesTo spot n) h = record-on spot n h
   to-on Next.NoMarker h = tt
 
   selected-on : (x : Selection) (other : Plan) → SelectedOn (marks t) x → PlanOn (marks t) r s other → PlanOn (marks t) r s (onSelected r o (s .head) x other)
@@ -98,7 +98,7 @@ module _ (tr : Tracks) (r : Rule) (s : Stands) (o : Orders) (wh : Whole (tr (s .
   unfolding aimed selectsOne spotFits marksOf
   aimed-on Aim.Stays p e = record { here = refl; place = p; tally = omega arith; leaves = not-true (r .selects) e }
   aimed-on Aim.HomeAddress p e = record { here = refl; place = omega arith; tally = omega arith; leaves = not-true (r .selects) e }
-  aimed-on Aim.R0 p e = record-on Spot.Zero 0 refl
+  aimed-on Aim.R0 p e = record-on Spot.R0 0 refl
   aimed-on Aim.NextId p e = to-on (nextId (marks t) (s .place)) (id-on (marks t) (s .place))
   aimed-on Aim.Next p e = next-one
   aimed-on Aim.NextForData p e = served-on (servesData (ruleOf (o .before) .serves))
@@ -111,8 +111,8 @@ module _ (tr : Tracks) (r : Rule) (s : Stands) (o : Orders) (wh : Whole (tr (s .
   barred-on (Bar.Seeks k) x h = pick-all (PlanOn (marks t) r s) (barsSeek (o .mask) k) {x = Refuses Row.SeekBarred} tt h
   barred-on (Bar.Writes k) x h = pick-all (PlanOn (marks t) r s) (barsWrite (o .mask) k) {x = Refuses Row.WriteBarred} tt h
 
-  pub plan-on : s .place ≤ trackCells → selectsOne (r .aim) (r .selects) ≡ true → PlanOn (marks t) r s (plans r (marksOf tr) s o)
-  unfolding plans
+  pub plan-on : s .place ≤ trackCells → selectsOne (r .aim) (r .selects) ≡ true → PlanOn (marks t) r s (planOf r (marksOf tr) s o)
+  unfolding planOf
   plan-on p e =
       pick-all (PlanOn (marks t) r s) (licensed (r .licence) o) {y = Refuses Row.WrongBefore} (barred-on (r .bar) _ (aimed-on (r .aim) p e)) tt
 
@@ -120,7 +120,7 @@ module _ (tr : Tracks) (r : Rule) (s : Stands) (o : Orders) (wh : Whole (tr (s .
 
 abbrev pub NoMarker : Selection → Type 0
 NoMarker Nothing = Unit {0}
-NoMarker (On Spot.Zero) = Unit {0}
+NoMarker (On Spot.R0) = Unit {0}
 NoMarker (On (Spot.Marker p)) = ⊥
 
 abbrev pub PlanFree : Plan → Type 0
@@ -137,12 +137,12 @@ isR0 Aim.NextForData = false
 isR0 Aim.NextForKey = false
 isR0 Aim.Selected = false
 
-module _ (r : Rule) (m : Marks) (s : Stands) (o : Orders) where
+module _ (r : Rule) (m : Marks) (s : Position) (o : Orders) where
   pick-free : (b : Bool) (spot : Spot) → b ≡ false → NoMarker (pick b (On spot) Nothing)
   pick-free true spot e = absurd (false≢true (sym e))
   pick-free false spot e = tt
 
-  zero-free : (b : Bool) → NoMarker (pick b (On Spot.Zero) Nothing)
+  zero-free : (b : Bool) → NoMarker (pick b (On Spot.R0) Nothing)
   zero-free true = tt
   zero-free false = tt
 
@@ -154,7 +154,7 @@ module _ (r : Rule) (m : Marks) (s : Stands) (o : Orders) where
   module _ (none : r .selects ≡ false) where
     next-free : (x : Next) → PlanFree (onNext r o (s .head) x)
     unfolding onNext
-    next-free (Next.Stands spot n) = record-free spot n (pick-free (r .selects) spot none)
+    next-free (Next.ComesTo spot n) = record-free spot n (pick-free (r .selects) spot none)
     next-free Next.NoMarker = tt
 
     selected-free : (x : Selection) (other : Plan) → PlanFree other → PlanFree (onSelected r o (s .head) x other)
@@ -174,7 +174,7 @@ module _ (r : Rule) (m : Marks) (s : Stands) (o : Orders) where
     unfolding aimed
     aimed-free Aim.Stays = tt
     aimed-free Aim.HomeAddress = tt
-    aimed-free Aim.R0 = record-free Spot.Zero 0 (zero-free (r .selects))
+    aimed-free Aim.R0 = record-free Spot.R0 0 (zero-free (r .selects))
     aimed-free Aim.NextId = next-free _
     aimed-free Aim.Next = to-free
     aimed-free Aim.NextForData = served-free _
@@ -185,7 +185,7 @@ module _ (r : Rule) (m : Marks) (s : Stands) (o : Orders) where
   unfolding aimed isR0
   aimed-zero Aim.Stays e = absurd (false≢true e)
   aimed-zero Aim.HomeAddress e = absurd (false≢true e)
-  aimed-zero Aim.R0 e = record-free Spot.Zero 0 (zero-free (r .selects))
+  aimed-zero Aim.R0 e = record-free Spot.R0 0 (zero-free (r .selects))
   aimed-zero Aim.NextId e = absurd (false≢true e)
   aimed-zero Aim.Next e = absurd (false≢true e)
   aimed-zero Aim.NextForData e = absurd (false≢true e)
@@ -198,12 +198,12 @@ module _ (r : Rule) (m : Marks) (s : Stands) (o : Orders) where
   barred-free (Bar.Seeks k) x h = pick-all PlanFree (barsSeek (o .mask) k) {x = Refuses Row.SeekBarred} tt h
   barred-free (Bar.Writes k) x h = pick-all PlanFree (barsWrite (o .mask) k) {x = Refuses Row.WriteBarred} tt h
 
-  planned-free : PlanFree (aimed r m s o (r .aim)) → PlanFree (plans r m s o)
-  unfolding plans
+  planned-free : PlanFree (aimed r m s o (r .aim)) → PlanFree (planOf r m s o)
+  unfolding planOf
   planned-free h = pick-all PlanFree (licensed (r .licence) o) {y = Refuses Row.WrongBefore} (barred-free (r .bar) _ h) tt
 
-  pub none-free : not (r .selects) ≡ true → PlanFree (plans r m s o)
+  pub none-free : not (r .selects) ≡ true → PlanFree (planOf r m s o)
   none-free e = planned-free (aimed-free (not-true (r .selects) e) (r .aim))
 
-  pub r0-free : isR0 (r .aim) ≡ true → PlanFree (plans r m s o)
+  pub r0-free : isR0 (r .aim) ≡ true → PlanFree (planOf r m s o)
   r0-free e = planned-free (aimed-zero (r .aim) e)

@@ -22,9 +22,9 @@ use Rattle.command.specs.declared.{Got.Got}
 use Rattle.command.specs.declared.Got.the-variants.{Sees, Fails}
 use Rattle.pack.specs.declared.{Head.Head}
 use Rattle.table.specs.declared.{Names.Names}
-use Rattle.turn.specs.Turn.{Tracks, Lies}
+use Rattle.turn.specs.Turn.{Tracks, TrackArea}
 use Rattle.command.specs.declared.Got.the-variants.{Sees, Fails}
-use Rattle.command.specs.Command.{areaIf, named, namedBy, liesOn, areasOf, allRead, countsIn, gets, Seen, seen, seeing, saw}
+use Rattle.command.specs.Command.{areaIf, named, namedBy, onHead, areasOf, allRead, countsIn, gets, Seen, seen, seenWith, seenOf}
 
 -- an area's bytes are those of its first cells
 pub area-bytes : (t : List ℕ) (a : Area) → areaBytes t a ≡ bytesOf (part t (a .first) (a .bytes))
@@ -49,15 +49,15 @@ was-read false x row n e = absurd (let z : _≡_ {A = ℕ} 0 1 = cc in omega ari
 sees-same : (m n : Counts) → Sees m ≡ Sees n → m ≡ n
 sees-same m n e = cc
 
-all-same : (t : Tracks) (l : List Lies) (m n : Counts) → allRead t l (Sees m) ≡ Sees n → m ≡ n
+all-same : (t : Tracks) (l : List TrackArea) (m n : Counts) → allRead t l (Sees m) ≡ Sees n → m ≡ n
 unfolding allRead
 all-same t [] m n e = sees-same m n e
 all-same t (a ∷ l) m n e = all-same t l m n (was-read (readable (t (a .head)) (a .area)) _ _ n e .1)
 
-if-read : (t : Tracks) (h : Head) (b : Bool) (a : Area) (l : List Area) (x : Got) (n : Counts) → allRead t (liesOn h (areaIf b a ++ l)) x ≡ Sees n
-    → (b ≡ true → readable (t h) a ≡ true) × (allRead t (liesOn h l) x ≡ Sees n)
-unfolding allRead areaIf liesOn
-if-read t h true a l x n e = let r = was-read (readable (t h) a) (allRead t (liesOn h l) x) _ n e in ((λ _. r .0), r .1)
+if-read : (t : Tracks) (h : Head) (b : Bool) (a : Area) (l : List Area) (x : Got) (n : Counts) → allRead t (onHead h (areaIf b a ++ l)) x ≡ Sees n
+    → (b ≡ true → readable (t h) a ≡ true) × (allRead t (onHead h l) x ≡ Sees n)
+unfolding allRead areaIf onHead
+if-read t h true a l x n e = let r = was-read (readable (t h) a) (allRead t (onHead h l) x) _ n e in ((λ _. r .0), r .1)
 if-read t h false a l x n e = ((λ q. absurd (false≢true q)), e)
 
 -- ---- a record
@@ -66,8 +66,8 @@ module _ (tr : Tracks) (h : Head) (c : ℕ) (key body : Bool) (n : Counts) (e : 
   abbrev t : List ℕ
   t = tr h
 
-  all-read : (readable t (countArea c) ≡ true) × (allRead tr (liesOn h (namedBy c key body (readCount t c))) (Sees (countsAt t c)) ≡ Sees n)
-  unfolding gets areasOf liesOn countsIn allRead
+  all-read : (readable t (countArea c) ≡ true) × (allRead tr (onHead h (namedBy c key body (readCount t c))) (Sees (countsAt t c)) ≡ Sees n)
+  unfolding gets areasOf onHead countsIn allRead
   all-read = was-read (readable t (countArea c)) _ _ n e
 
   pub record-readable : readable t (countArea c) ≡ true
@@ -83,16 +83,16 @@ module _ (tr : Tracks) (h : Head) (c : ℕ) (key body : Bool) (n : Counts) (e : 
   unfolding readCount
   count-reads = ap (λ (b : Bool). pick b (CountRead.Reads (countsAt t c)) CountRead.Fails) record-readable ∙ ap CountRead.Reads (sym record-counts)
 
-  named-read : allRead tr (liesOn h (named c key body n)) (Sees n) ≡ Sees n
+  named-read : allRead tr (onHead h (named c key body n)) (Sees n) ≡ Sees n
   unfolding namedBy
-  named-read = (λ i. allRead tr (liesOn h (namedBy c key body (sym count-reads i))) (Sees (record-counts i))) ∙ all-read .1
+  named-read = (λ i. allRead tr (onHead h (namedBy c key body (sym count-reads i))) (Sees (record-counts i))) ∙ all-read .1
 
   each-read : (both key (ltb 0 (n .kl)) ≡ true → readable t (keyArea c n) ≡ true) × (both body (ltb 0 (n .dl)) ≡ true → readable t (dataArea c n) ≡ true)
   unfolding named
   each-read =
       let d = areaIf (both body (ltb 0 (n .dl))) (dataArea c n) in
       let r = if-read tr h (both key (ltb 0 (n .kl))) (keyArea c n) d (Sees n) n named-read in
-      let last : allRead tr (liesOn h (d ++ [])) (Sees n) ≡ Sees n = ap (λ (l : List Area). allRead tr (liesOn h l) (Sees n)) (append-nil d) ∙ r .1 in
+      let last : allRead tr (onHead h (d ++ [])) (Sees n) ≡ Sees n = ap (λ (l : List Area). allRead tr (onHead h l) (Sees n)) (append-nil d) ∙ r .1 in
       (r .0, if-read tr h (both body (ltb 0 (n .dl))) (dataArea c n) [] (Sees n) n last .0)
 
   -- the key and the data that were read lie on the track
@@ -107,18 +107,18 @@ module _ (tr : Tracks) (h : Head) (c : ℕ) (key body : Bool) (n : Counts) (e : 
       omega (arith, lies t (dataArea c n) (each-read .1 (ap (λ (b : Bool). both b (ltb 0 (n .dl))) d ∙ lt-ltb 0 (n .dl) h)))
 
   saw-two : (k d : Bool)
-      → saw tr (liesOn h (areaIf k (keyArea c n) ++ areaIf d (dataArea c n))) ≡ seen [] (pick k (areaBytes t (keyArea c n)) []) (pick d (areaBytes t (dataArea c n)) [])
-  unfolding saw seeing areaIf liesOn keyArea dataArea
+      → seenOf tr (onHead h (areaIf k (keyArea c n) ++ areaIf d (dataArea c n))) ≡ seen [] (pick k (areaBytes t (keyArea c n)) []) (pick d (areaBytes t (dataArea c n)) [])
+  unfolding seenOf seenWith areaIf onHead keyArea dataArea
   saw-two true true = refl
   saw-two true false = refl
   saw-two false true = refl
   saw-two false false = refl
 
-  record-seen : saw tr (areasOf (Names.Count key body) tr h c)
+  record-seen : seenOf tr (areasOf (Names.Count key body) tr h c)
       ≡ seen [] (pick (both key (ltb 0 (n .kl))) (areaBytes t (keyArea c n)) []) (pick (both body (ltb 0 (n .dl))) (areaBytes t (dataArea c n)) [])
-  unfolding areasOf liesOn saw seeing namedBy named
+  unfolding areasOf onHead seenOf seenWith namedBy named
   record-seen =
-      ap (λ (r : CountRead). saw tr (liesOn h (namedBy c key body r))) count-reads
+      ap (λ (r : CountRead). seenOf tr (onHead h (namedBy c key body r))) count-reads
       ∙ saw-two (both key (ltb 0 (n .kl))) (both body (ltb 0 (n .dl)))
 
   -- the bytes of an area that has so many bytes, if there are any
@@ -132,20 +132,20 @@ module _ (tr : Tracks) (h : Head) (c : ℕ) (key body : Bool) (n : Counts) (e : 
       go false q = ap (λ (k : ℕ). bytesOf (part t (a .first) k)) {x = 0} {y = m} (omega (arith, ltb-false 0 m q))
 
   -- their bytes
-  pub record-key : saw tr (areasOf (Names.Count key body) tr h c) .key ≡ pick key (bytesOf (part t (keyArea c n .first) (n .kl))) []
+  pub record-key : seenOf tr (areasOf (Names.Count key body) tr h c) .key ≡ pick key (bytesOf (part t (keyArea c n .first) (n .kl))) []
   unfolding keyArea
   record-key = ap (λ (x : Seen). x .key) record-seen ∙ some-bytes key (keyArea c n) (n .kl) (λ _. refl)
 
-  pub record-body : saw tr (areasOf (Names.Count key body) tr h c) .body ≡ pick body (bytesOf (part t (dataArea c n .first) (n .dl))) []
+  pub record-body : seenOf tr (areasOf (Names.Count key body) tr h c) .body ≡ pick body (bytesOf (part t (dataArea c n .first) (n .dl))) []
   unfolding dataArea
   record-body = ap (λ (x : Seen). x .body) record-seen ∙ some-bytes body (dataArea c n) (n .dl) (λ h. omega arith)
 
 -- ---- the home address
 
-pub home-seen : (t : Tracks) (h : Head) (c : ℕ) → saw t (areasOf Names.HomeAddress t h c) .home ≡ bytesOf (part (t h) 0 5)
-unfolding areasOf liesOn saw seeing
+pub home-seen : (t : Tracks) (h : Head) (c : ℕ) → seenOf t (areasOf Names.HomeAddress t h c) .home ≡ bytesOf (part (t h) 0 5)
+unfolding areasOf onHead seenOf seenWith
 home-seen t h c = area-bytes (t h) homeArea
 
 pub home-lies : (t : Tracks) (h : Head) (c : ℕ) (n : Counts) → gets Names.HomeAddress t h c ≡ Sees n → 0 + 5 + 2 ≤ length (t h)
-unfolding gets areasOf liesOn allRead
+unfolding gets areasOf onHead allRead
 home-lies t h c n e = lies (t h) homeArea (was-read (readable (t h) homeArea) _ _ n e .0)

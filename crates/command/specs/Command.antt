@@ -13,10 +13,10 @@ use Rattle.rows.specs.declared.{Row.Row, Sense.Sense}
 use Rattle.rows.specs.Rows.{sense}
 use Rattle.mask.specs.declared.{Seeking.Seeking}
 use Rattle.mask.specs.Mask.{legal, barsSeek, barsWrite}
-use Rattle.house_check.specs.Area.{laid}
+use Rattle.house_check.specs.Area.{cellsWithCheck}
 use Rattle.areas.specs.declared.{Area.Area, Part.Part, Counts.Counts, CountRead.CountRead}
-use Rattle.areas.specs.Areas.{readable, areaBytes, rowOf, homeArea, homeBytes, zeroFirst, countArea, countsAt, readCount, keyArea, dataArea, recordCells, endBy, needed}
-use Rattle.areas.specs.Flags.{flagOfZero, flagAfter}
+use Rattle.areas.specs.Areas.{readable, areaBytes, rowOf, homeArea, homeBytes, r0First, countArea, countsAt, readCount, keyArea, dataArea, recordCells, endBy, needed}
+use Rattle.areas.specs.Flags.{flagOfR0, flagAfter}
 use Rattle.hunt.specs.declared.{Spot.Spot, Next.Next}
 use Rattle.hunt.specs.Hunt.{spotFits, countFirst, nextRecord, nextId, spaceRecord}
 use Rattle.room.specs.Room.{fits}
@@ -25,12 +25,12 @@ use Rattle.compare.specs.declared.{Compared.Compared}
 use Rattle.compare.specs.Compare.{compared}
 use Rattle.pack.specs.declared.{Cylinder.Cylinder, Head.Head, Shape.Shape, Sought.Sought}
 use Rattle.pack.specs.Shapes.{cylinder, head, seekTo, seekHead}
-use Rattle.held.specs.declared.{Selection.Selection, Stands.Stands, Orders.Orders}
-use Rattle.laying.specs.Laying.{recorded, newCounts, newRecord}
+use Rattle.held.specs.declared.{Selection.Selection, Position.Position, Orders.Orders}
+use Rattle.format.specs.Format.{recorded, newCounts, newRecord}
 use Rattle.table.specs.declared.{How.How, Licence.Licence, Bar.Bar, Aim.Aim, Names.Names, Control.Control, Write.Write, Act.Act, Rule.Rule}
 use Rattle.table.specs.Table.{ruleOf, looks, servesData, servesKey, isHome}
 use Rattle.turn.specs.declared.{Ending.Ending}
-use Rattle.turn.specs.Turn.{Tracks, Lies, Piece, Moves, None, Gives, Takes, Turn, turn, standing, sought, ordered, after, checks}
+use Rattle.turn.specs.Turn.{Tracks, TrackArea, Piece, Moves, None, Gives, Takes, Turn, turn, positionAt, positionSought, ordersOf, after, checkTurn}
 use Rattle.command.specs.declared.{Task.Task, Plan.Plan, Got.Got, Job.Job, Ready.Ready}
 
 -- ==== which record it works on. Of the tracks only the markers are seen
@@ -61,7 +61,7 @@ unfoldable pub licensed : Licence → Orders → Bool
 licensed Licence.Any o = true
 licensed Licence.Look o = looks (ruleOf (o .before) .act)
 licensed Licence.HomeAddress o = homeDone (o .before) (o .whole)
-licensed Licence.Record o = either (recordWritten (o .before)) (equalIdOrKey (o .before) (o .whole))
+licensed Licence.WrittenOrEqual o = either (recordWritten (o .before)) (equalIdOrKey (o .before) (o .whole))
 licensed Licence.EqualIdOrKey o = equalIdOrKey (o .before) (o .whole)
 licensed Licence.EqualId o = equalId (o .before) (o .whole)
 
@@ -94,7 +94,7 @@ onRecord r o h spot n =
     (Plan.Works (task h (countFirst spot) (pick (r .selects) (Selection.On spot) Selection.Nothing) (pick (tallies (r .act)) (o .tally + n) 0)))
 
 unfoldable pub onNext : Rule → Orders → Head → Next → Plan
-onNext r o h (Next.Stands spot n) = onRecord r o h spot n
+onNext r o h (Next.ComesTo spot n) = onRecord r o h spot n
 onNext r o h Next.NoMarker = Plan.Refuses Row.NoMarker
 
 -- the record selected, or else
@@ -103,17 +103,17 @@ onSelected r o h Selection.Nothing other = other
 onSelected r o h (Selection.On spot) other = onRecord r o h spot 0
 
 -- the next record on the track under the head
-unfoldable pub toNext : Rule → Marks → Stands → Orders → Plan
+unfoldable pub toNext : Rule → Marks → Position → Orders → Plan
 toNext r m s o = onNext r o (s .head) (nextRecord (m (s .head)) (s .place))
 
 -- the record selected, where the command before serves this one, or else the next
-unfoldable pub toServed : Rule → Marks → Stands → Orders → Bool → Plan
+unfoldable pub toServed : Rule → Marks → Position → Orders → Bool → Plan
 toServed r m s o serves = pick serves (onSelected r o (s .head) (o .selection) (toNext r m s o)) (toNext r m s o)
 
-unfoldable pub aimed : Rule → Marks → Stands → Orders → Aim → Plan
+unfoldable pub aimed : Rule → Marks → Position → Orders → Aim → Plan
 aimed r m s o Aim.Stays = Plan.Works (task (s .head) (s .place) Selection.Nothing 0)
 aimed r m s o Aim.HomeAddress = Plan.Works (task (s .head) homePlace Selection.Nothing 0)
-aimed r m s o Aim.R0 = onRecord r o (s .head) Spot.Zero 0
+aimed r m s o Aim.R0 = onRecord r o (s .head) Spot.R0 0
 aimed r m s o Aim.NextId = onNext r o (s .head) (nextId (m (s .head)) (s .place))
 aimed r m s o Aim.Next = toNext r m s o
 aimed r m s o Aim.NextForData = toServed r m s o (servesData (ruleOf (o .before) .serves))
@@ -127,8 +127,8 @@ unlessBarred (Bar.Seeks k) m x = pick (barsSeek m k) (Plan.Refuses Row.SeekBarre
 unlessBarred (Bar.Writes k) m x = pick (barsWrite m k) (Plan.Refuses Row.WriteBarred) x
 
 -- the rows in order: wrong command before; barred; no marker, second index
-unfoldable pub plans : Rule → Marks → Stands → Orders → Plan
-plans r m s o = pick (licensed (r .licence) o) (unlessBarred (r .bar) (o .mask) (aimed r m s o (r .aim))) (Plan.Refuses Row.WrongBefore)
+unfoldable pub planOf : Rule → Marks → Position → Orders → Plan
+planOf r m s o = pick (licensed (r .licence) o) (unlessBarred (r .bar) (o .mask) (aimed r m s o (r .aim))) (Plan.Refuses Row.WrongBefore)
 
 -- ==== which areas it reads: of the home address, or of the record whose count area is at c
 
@@ -144,16 +144,16 @@ unfoldable pub namedBy : ℕ → Bool → Bool → CountRead → List Area
 namedBy c key body (CountRead.Reads n) = named c key body n
 namedBy c key body CountRead.Fails = []
 
-unfoldable pub liesOn : Head → List Area → List Lies
-liesOn h l = map (λ (a : Area). record { head = h; area = a }) l
+unfoldable pub onHead : Head → List Area → List TrackArea
+onHead h l = map (λ (a : Area). record { head = h; area = a }) l
 
-unfoldable pub areasOf : Names → Tracks → Head → ℕ → List Lies
+unfoldable pub areasOf : Names → Tracks → Head → ℕ → List TrackArea
 areasOf Names.Nothing t h c = []
-areasOf Names.HomeAddress t h c = liesOn h (homeArea ∷ [])
-areasOf (Names.Count key body) t h c = liesOn h (countArea c ∷ namedBy c key body (readCount (t h) c))
+areasOf Names.HomeAddress t h c = onHead h (homeArea ∷ [])
+areasOf (Names.Count key body) t h c = onHead h (countArea c ∷ namedBy c key body (readCount (t h) c))
 
 -- all are checked before any byte moves: the row of the first that is not readable, or else x
-unfoldable pub allRead : Tracks → List Lies → Got → Got
+unfoldable pub allRead : Tracks → List TrackArea → Got → Got
 allRead t [] x = x
 allRead t (a ∷ l) x = pick (readable (t (a .head)) (a .area)) (allRead t l x) (Got.Fails (rowOf (a .area .part)))
 
@@ -178,15 +178,15 @@ pub record Seen : Type 0 where
 abbrev pub seen : List ℕ → List ℕ → List ℕ → Seen
 seen h k b = record { home = h; key = k; body = b }
 
-unfoldable pub seeing : Part → List ℕ → Seen → Seen
-seeing Part.Home v x = seen v (x .key) (x .body)
-seeing Part.Count v x = x
-seeing Part.Key v x = seen (x .home) v (x .body)
-seeing Part.Data v x = seen (x .home) (x .key) v
+unfoldable pub seenWith : Part → List ℕ → Seen → Seen
+seenWith Part.Home v x = seen v (x .key) (x .body)
+seenWith Part.Count v x = x
+seenWith Part.Key v x = seen (x .home) v (x .body)
+seenWith Part.Data v x = seen (x .home) (x .key) v
 
-unfoldable pub saw : Tracks → List Lies → Seen
-saw t [] = seen [] [] []
-saw t (a ∷ l) = seeing (a .area .part) (areaBytes (t (a .head)) (a .area)) (saw t l)
+unfoldable pub seenOf : Tracks → List TrackArea → Seen
+seenOf t [] = seen [] [] []
+seenOf t (a ∷ l) = seenWith (a .area .part) (areaBytes (t (a .head)) (a .area)) (seenOf t l)
 
 -- ==== what it does then
 
@@ -212,12 +212,12 @@ allRecorded t (a ∷ l) = both (recorded t a) (allRecorded t l)
 pub record Sight : Type 0 where
   pub job : Job
   pub sent : List ℕ
-  pub reads : List Lies
+  pub reads : List TrackArea
   pub seen : Seen
   pub marks : List Bool
   pub recorded : Bool
 
-unfoldable pub areasRead : Tracks → Job → List Lies
+unfoldable pub areasRead : Tracks → Job → List TrackArea
 areasRead t j = areasOf (j .rule .names) t (j .task .head) (j .task .place)
 
 unfoldable pub sight : Tracks → Job → List ℕ → Sight
@@ -225,7 +225,7 @@ sight t j v = record {
   job = j;
   sent = v;
   reads = areasRead t j;
-  seen = saw t (areasRead t j);
+  seen = seenOf t (areasRead t j);
   marks = marks (t (j .task .head));
   recorded = allRecorded (t (j .task .head)) (goesOver (j .rule .act) (j .task .place) (j .counts));
 }
@@ -237,26 +237,26 @@ pub record Sighted (t : Tracks) (j : Job) : Type 0 where
 
 -- ---- how it ends
 
-unfoldable pub fails : Sight → Row → Turn
-fails x row = checks (x .job .stands) (x .job .orders) (x .reads) row
+unfoldable pub failTurn : Sight → Row → Turn
+failTurn x row = checkTurn (x .job .position) (x .job .orders) (x .reads) row
 
 -- commands but Sense and No-op clear sense first
 unfoldable pub senseAfter : Job → Sense
-senseAfter j = pick (j .rule .clears) (sense 0 0) (j .stands .sense)
+senseAfter j = pick (j .rule .clears) (sense 0 0) (j .position .sense)
 
-unfoldable pub standsAfter : Job → Task → Stands
-standsAfter j k = standing (j .stands .cylinder) (k .head) (k .place) (senseAfter j)
+unfoldable pub positionAfter : Job → Task → Position
+positionAfter j k = positionAt (j .position .cylinder) (k .head) (k .place) (senseAfter j)
 
 -- this command is the one before the next; whether its search was equal over the whole field
 unfoldable pub ordersAfter : Job → Task → Bool → Orders
 ordersAfter j k whole = after (j .orders) (j .code) whole (k .tally) (k .selection)
 
 -- at the place of a task, by default its own
-unfoldable pub endsAt : Sight → Task → Ending → Moves → List Piece → Bool → Turn
-endsAt x k e m l whole = turn e m (x .reads) l (standsAfter (x .job) k) (ordersAfter (x .job) k whole)
+unfoldable pub endTurnAt : Sight → Task → Ending → Moves → List Piece → Bool → Turn
+endTurnAt x k e m l whole = turn e m (x .reads) l (positionAfter (x .job) k) (ordersAfter (x .job) k whole)
 
-unfoldable pub ends : Sight → Ending → Moves → List Piece → Bool → Turn
-ends x e m l whole = endsAt x (x .job .task) e m l whole
+unfoldable pub endTurn : Sight → Ending → Moves → List Piece → Bool → Turn
+endTurn x e m l whole = endTurnAt x (x .job .task) e m l whole
 
 -- DL = 0, where the row says so: Unit Exception
 unfoldable pub endingOf : Job → Ending
@@ -264,16 +264,16 @@ endingOf j = pick (both (j .rule .excepts) (eqb (j .counts .dl) 0)) Ending.Excep
 
 -- ---- 03 No-op
 
-unfoldable pub rests : Sight → Turn
-rests x = ends x Ending.Normal None [] false
+unfoldable pub noOpTurn : Sight → Turn
+noOpTurn x = endTurn x Ending.Normal None [] false
 
 -- ---- 04 Sense: 6 bytes, bytes 2 to 5 zero
 
-unfoldable pub senseBytes : Stands → List ℕ
+unfoldable pub senseBytes : Position → List ℕ
 senseBytes s = s .sense .byte0 ∷ s .sense .byte1 ∷ 0 ∷ 0 ∷ 0 ∷ 0 ∷ []
 
-unfoldable pub senses : Sight → Turn
-senses x = ends x Ending.Normal (Gives (senseBytes (x .job .stands))) [] false
+unfoldable pub senseTurn : Sight → Turn
+senseTurn x = endTurn x Ending.Normal (Gives (senseBytes (x .job .position))) [] false
 
 -- ---- 07 Seek, 0B Seek Cylinder, 1B Seek Head: 6 bytes BB CC HH
 
@@ -289,32 +289,32 @@ soughtBy g Seeking.SeekHead c v = seekHead g c (head (be16 v 4))
 unfoldable pub addressed : Shape → Seeking → Cylinder → List ℕ → Sought
 addressed g k c v = pick (ltb (length v) seekBytes) (Sought.Fails Row.BadSeek) (soughtBy g k c v)
 
-unfoldable pub arrives : Sight → Sought → Turn
-arrives x (Sought.Stands c h) = turn Ending.Normal (Takes seekBytes) (x .reads) [] (sought c h) (ordersAfter (x .job) (x .job .task) false)
-arrives x (Sought.Fails row) = fails x row
+unfoldable pub arrivalTurn : Sight → Sought → Turn
+arrivalTurn x (Sought.To c h) = turn Ending.Normal (Takes seekBytes) (x .reads) [] (positionSought c h) (ordersAfter (x .job) (x .job .task) false)
+arrivalTurn x (Sought.Fails row) = failTurn x row
 
-unfoldable pub seeks : Shape → Seeking → Sight → Turn
-seeks g k x = arrives x (addressed g k (x .job .stands .cylinder) (x .sent))
+unfoldable pub seekTurn : Shape → Seeking → Sight → Turn
+seekTurn g k x = arrivalTurn x (addressed g k (x .job .position .cylinder) (x .sent))
 
 -- ---- 1F Set File Mask: a bad byte, then a second mask
 
 abbrev pub maskBytes : ℕ
 maskBytes = 1
 
-unfoldable pub masked : Sight → ℕ → Turn
-masked x byte =
-    turn Ending.Normal (Takes maskBytes) (x .reads) [] (standsAfter (x .job) (x .job .task)) (ordered byte true (x .job .code) false 0 Selection.Nothing)
+unfoldable pub maskedTurn : Sight → ℕ → Turn
+maskedTurn x byte =
+    turn Ending.Normal (Takes maskBytes) (x .reads) [] (positionAfter (x .job) (x .job .task)) (ordersOf byte true (x .job .code) false 0 Selection.Nothing)
 
-unfoldable pub masks : Sight → ℕ → Turn
-masks x byte = pick (legal byte) (pick (x .job .orders .«mask_set») (fails x Row.SecondMask) (masked x byte)) (fails x Row.BadMask)
+unfoldable pub maskTurn : Sight → ℕ → Turn
+maskTurn x byte = pick (legal byte) (pick (x .job .orders .«mask_set») (failTurn x Row.SecondMask) (maskedTurn x byte)) (failTurn x Row.BadMask)
 
 -- ---- 0F Space Record: after home address work 7, else past the next marker without reading
 
 unfoldable pub spacedPlace : Sight → ℕ
-spacedPlace x = spaceRecord (x .marks) (x .job .stands .place) (isHome (ruleOf (x .job .orders .before) .aim))
+spacedPlace x = spaceRecord (x .marks) (x .job .position .place) (isHome (ruleOf (x .job .orders .before) .aim))
 
-unfoldable pub spaces : Sight → Turn
-spaces x = endsAt x (task (x .job .task .head) (spacedPlace x) Selection.Nothing 0) Ending.Normal None [] false
+unfoldable pub spaceTurn : Sight → Turn
+spaceTurn x = endTurnAt x (task (x .job .task .head) (spacedPlace x) Selection.Nothing 0) Ending.Normal None [] false
 
 -- ---- searches: the first m bytes, m the smaller of the bytes sent and the field, as unsigned numbers
 
@@ -366,26 +366,26 @@ unfoldable pub wholly : How → List ℕ → List ℕ → Bool
 wholly h f v = both (equalOnly h) (both (leb (length f) (length v)) (satisfied h f v))
 
 -- it moves the m bytes and wants its whole field
-unfoldable pub comparesWith : How → Sight → List ℕ → Turn
-comparesWith h x f = ends x (pick (satisfied h f (x .sent)) Ending.Satisfied Ending.Normal) (Takes (length f)) [] (wholly h f (x .sent))
+unfoldable pub fieldTurn : How → Sight → List ℕ → Turn
+fieldTurn h x f = endTurn x (pick (satisfied h f (x .sent)) Ending.Satisfied Ending.Normal) (Takes (length f)) [] (wholly h f (x .sent))
 
-unfoldable pub compares : How → Sight → Turn
-compares h x = comparesWith h x (fieldOf (x .job .rule .names) (x .job .counts) (x .seen))
+unfoldable pub searchTurn : How → Sight → Turn
+searchTurn h x = fieldTurn h x (fieldOf (x .job .rule .names) (x .job .counts) (x .seen))
 
 -- ---- reads: the home address's 5 bytes; of a record the count's 8, key and data where they are named and there
 
 -- counts move as the 8 bytes CCHHR, KL, DL
-unfoldable pub sent : Counts → List ℕ
-sent n = idOf (n .cc) (n .hh) (n .r) ++ (n .kl ∷ n .dl / 256 ∷ n .dl % 256 ∷ [])
+unfoldable pub countMoved : Counts → List ℕ
+countMoved n = idOf (n .cc) (n .hh) (n .r) ++ (n .kl ∷ n .dl / 256 ∷ n .dl % 256 ∷ [])
 
 unfoldable pub offered : Names → Bool → Counts → Seen → List ℕ
 offered Names.Nothing counted n x = []
 offered Names.HomeAddress counted n x = x .home
-offered (Names.Count key body) counted n x = pick counted (sent n) [] ++ (pick key (x .key) [] ++ pick body (x .body) [])
+offered (Names.Count key body) counted n x = pick counted (countMoved n) [] ++ (pick key (x .key) [] ++ pick body (x .body) [])
 
-unfoldable pub gives : Bool → Sight → Turn
-gives counted x =
-    ends x (endingOf (x .job)) (Gives (offered (x .job .rule .names) counted (x .job .counts) (x .seen))) [] false
+unfoldable pub readTurn : Bool → Sight → Turn
+readTurn counted x =
+    endTurn x (endingOf (x .job)) (Gives (offered (x .job .rule .names) counted (x .job .counts) (x .seen))) [] false
 
 -- ---- writes: missing bytes are zeros, surplus is not fetched. 19, 15 and 1D make all later cells 0
 
@@ -396,97 +396,97 @@ unfoldable pub toEnd : ℕ → List ℕ → List ℕ
 toEnd first v = v ++ replicate (trackCells - (first + length v)) gap
 
 -- 19
-unfoldable pub laysHome : Sight → Turn
-laysHome x = ends x Ending.Normal (Takes homeBytes) (piece x 0 (toEnd 0 (laid (padded homeBytes (x .sent)))) ∷ []) false
+unfoldable pub homeTurn : Sight → Turn
+homeTurn x = endTurn x Ending.Normal (Takes homeBytes) (piece x 0 (toEnd 0 (cellsWithCheck (padded homeBytes (x .sent)))) ∷ []) false
 
 -- count, key and data of a new record; until its count is sent, 8 bytes
 unfoldable pub recordTakes : List ℕ → Counts → ℕ
 recordTakes v n = pick (ltb (length v) countSent) countSent (countSent + n .kl + n .dl)
 
 -- a new record, from a cell on, if it has room for so many cells there; where the task is then
-unfoldable pub laysNew : Sight → Task → ℕ → Counts → ℕ → List ℕ → Turn
-laysNew x k first n need v =
-    pick (fits first need) (endsAt x k Ending.Normal (Takes (recordTakes (x .sent) n)) (piece x first (toEnd first v) ∷ []) false) (fails x Row.NoRoom)
+unfoldable pub newTurn : Sight → Task → ℕ → Counts → ℕ → List ℕ → Turn
+newTurn x k first n need v =
+    pick (fits first need) (endTurnAt x k Ending.Normal (Takes (recordTakes (x .sent) n)) (piece x first (toEnd first v) ∷ []) false) (failTurn x Row.NoRoom)
 
 -- 15: behind the home address
-unfoldable pub laysR0 : Sight → ℕ → Turn
-laysR0 x flag =
-    laysNew x (x .job .task) zeroFirst (newCounts flag (x .sent)) (recordCells (newCounts flag (x .sent))) (newRecord flag (x .sent))
+unfoldable pub r0Turn : Sight → ℕ → Turn
+r0Turn x flag =
+    newTurn x (x .job .task) r0First (newCounts flag (x .sent)) (recordCells (newCounts flag (x .sent))) (newRecord flag (x .sent))
 
 -- 1D: behind the record that it follows, its marker first; it is selected, and the place after it
-unfoldable pub laysRecord : Sight → ℕ → ℕ → Turn
-laysRecord x at flag =
-    laysNew x (task (x .job .task .head) (at + 1) (Selection.On (Spot.Marker at)) 0) at (newCounts flag (x .sent)) (needed (newCounts flag (x .sent)))
+unfoldable pub recordTurn : Sight → ℕ → ℕ → Turn
+recordTurn x at flag =
+    newTurn x (task (x .job .task .head) (at + 1) (Selection.On (Spot.Marker at)) 0) at (newCounts flag (x .sent)) (needed (newCounts flag (x .sent)))
     (marker ∷ newRecord flag (x .sent))
 
 -- 05 and 0D: an area of n bytes, if there are any, of those sent from one on
-unfoldable pub over : Sight → Area → ℕ → ℕ → List Piece
-over x a from n = pick (ltb 0 n) (piece x (a .first) (laid (padded n (part (x .sent) from n))) ∷ []) []
+unfoldable pub overPiece : Sight → Area → ℕ → ℕ → List Piece
+overPiece x a from n = pick (ltb 0 n) (piece x (a .first) (cellsWithCheck (padded n (part (x .sent) from n))) ∷ []) []
 
 -- bytes of the key that are sent
 unfoldable pub keySent : Bool → Counts → ℕ
 keySent key n = pick key (n .kl) 0
 
-unfoldable pub updates : Bool → Sight → ℕ → Counts → Turn
-updates key x c n =
+unfoldable pub updateTurn : Bool → Sight → ℕ → Counts → Turn
+updateTurn key x c n =
     pick (x .recorded)
-    (ends x (endingOf (x .job)) (Takes (keySent key n + n .dl))
-    (over x (keyArea c n) 0 (keySent key n) ++ over x (dataArea c n) (keySent key n) (n .dl)) false)
-    (fails x Row.Unreadable)
+    (endTurn x (endingOf (x .job)) (Takes (keySent key n + n .dl))
+    (overPiece x (keyArea c n) 0 (keySent key n) ++ overPiece x (dataArea c n) (keySent key n) (n .dl)) false)
+    (failTurn x Row.Unreadable)
 
 -- ---- all of them
 
-unfoldable pub does : Shape → Control → Sight → Turn
-does g Control.Unknown x = fails x Row.UnknownCode
-does g Control.NoOp x = rests x
-does g Control.Sense x = senses x
-does g (Control.Seek k) x = seeks g k x
-does g Control.SetMask x = masks x (getD (x .sent) 0 0)
-does g Control.SpaceRecord x = spaces x
+unfoldable pub controlTurn : Shape → Control → Sight → Turn
+controlTurn g Control.Unknown x = failTurn x Row.UnknownCode
+controlTurn g Control.NoOp x = noOpTurn x
+controlTurn g Control.Sense x = senseTurn x
+controlTurn g (Control.Seek k) x = seekTurn g k x
+controlTurn g Control.SetMask x = maskTurn x (getD (x .sent) 0 0)
+controlTurn g Control.SpaceRecord x = spaceTurn x
 
-unfoldable pub lays : Write → Sight → Turn
-lays Write.HomeAddress x = laysHome x
-lays Write.R0 x = laysR0 x (flagOfZero (getD (x .seen .home) 0 0))
-lays Write.CountKeyData x = laysRecord x (endBy (x .job .task .place) (x .job .counts)) (flagAfter (x .job .counts .flag))
-lays (Write.Update key) x = updates key x (x .job .task .place) (x .job .counts)
+unfoldable pub writeTurn : Write → Sight → Turn
+writeTurn Write.HomeAddress x = homeTurn x
+writeTurn Write.R0 x = r0Turn x (flagOfR0 (getD (x .seen .home) 0 0))
+writeTurn Write.CountKeyData x = recordTurn x (endBy (x .job .task .place) (x .job .counts)) (flagAfter (x .job .counts .flag))
+writeTurn (Write.Update key) x = updateTurn key x (x .job .task .place) (x .job .counts)
 
-unfoldable pub acts : Shape → Act → Sight → Turn
-acts g (Act.Control a) x = does g a x
-acts g (Act.Search h) x = compares h x
-acts g (Act.Read counted) x = gives counted x
-acts g (Act.Write w) x = lays w x
+unfoldable pub actTurn : Shape → Act → Sight → Turn
+actTurn g (Act.Control a) x = controlTurn g a x
+actTurn g (Act.Search h) x = searchTurn h x
+actTurn g (Act.Read counted) x = readTurn counted x
+actTurn g (Act.Write w) x = writeTurn w x
 
 -- ==== the command
 
-abbrev pub jobOf : ℕ → Rule → Stands → Orders → Task → Counts → Job
-jobOf code r s o k n = record { code = code; rule = r; stands = s; orders = o; task = k; counts = n }
+abbrev pub jobOf : ℕ → Rule → Position → Orders → Task → Counts → Job
+jobOf code r s o k n = record { code = code; rule = r; position = s; orders = o; task = k; counts = n }
 
 -- the row that ends it before it acts: one of its plan's, then unreadable; or the job
-unfoldable pub hasRead : ℕ → Rule → Stands → Orders → Task → Got → Ready
+unfoldable pub hasRead : ℕ → Rule → Position → Orders → Task → Got → Ready
 hasRead code r s o k (Got.Sees n) = Ready.Acts (jobOf code r s o k n)
 hasRead code r s o k (Got.Fails row) = Ready.Refuses row
 
-unfoldable pub readyBy : Tracks → ℕ → Rule → Stands → Orders → Plan → Ready
+unfoldable pub readyBy : Tracks → ℕ → Rule → Position → Orders → Plan → Ready
 readyBy t code r s o (Plan.Refuses row) = Ready.Refuses row
 readyBy t code r s o (Plan.Works k) = hasRead code r s o k (gets (r .names) t (k .head) (k .place))
 
 -- the areas read by then
-unfoldable pub planReads : Tracks → Rule → Plan → List Lies
+unfoldable pub planReads : Tracks → Rule → Plan → List TrackArea
 planReads t r (Plan.Refuses row) = []
 planReads t r (Plan.Works k) = areasOf (r .names) t (k .head) (k .place)
 
-unfoldable pub turnBy : Shape → Tracks → Stands → Orders → List ℕ → List Lies → Ready → Turn
-turnBy g t s o v reads (Ready.Refuses row) = checks s o reads row
-turnBy g t s o v reads (Ready.Acts j) = acts g (j .rule .act) (sight t j v)
+unfoldable pub readyTurn : Shape → Tracks → Position → Orders → List ℕ → List TrackArea → Ready → Turn
+readyTurn g t s o v reads (Ready.Refuses row) = checkTurn s o reads row
+readyTurn g t s o v reads (Ready.Acts j) = actTurn g (j .rule .act) (sight t j v)
 
 -- by a row of the table
-unfoldable pub obeys : Shape → Tracks → ℕ → Rule → Stands → Orders → List ℕ → Turn
-obeys g t code r s o v =
-    turnBy g t s o v (planReads t r (plans r (marksOf t) s o)) (readyBy t code r s o (plans r (marksOf t) s o))
+unfoldable pub ruleTurn : Shape → Tracks → ℕ → Rule → Position → Orders → List ℕ → Turn
+ruleTurn g t code r s o v =
+    readyTurn g t s o v (planReads t r (planOf r (marksOf t) s o)) (readyBy t code r s o (planOf r (marksOf t) s o))
 
-unfoldable pub command : Shape → Tracks → Stands → Orders → ℕ → List ℕ → Turn
-command g t s o code v = obeys g t code (ruleOf code) s o v
+unfoldable pub command : Shape → Tracks → Position → Orders → ℕ → List ℕ → Turn
+command g t s o code v = ruleTurn g t code (ruleOf code) s o v
 
 -- what it comes to before it acts
-unfoldable pub readies : Tracks → Stands → Orders → ℕ → Ready
-readies t s o code = readyBy t code (ruleOf code) s o (plans (ruleOf code) (marksOf t) s o)
+unfoldable pub readyOf : Tracks → Position → Orders → ℕ → Ready
+readyOf t s o code = readyBy t code (ruleOf code) s o (planOf (ruleOf code) (marksOf t) s o)

@@ -1,8 +1,8 @@
 // What a command finds out before it acts.
 use areas::Counts;
 use held::Orders;
+use held::Position;
 use held::Selection;
-use held::Stands;
 use pack::Head;
 use rows::Row;
 use table::Rule;
@@ -32,7 +32,7 @@ pub enum Got {
 pub struct Job {
     pub code: u8,
     pub rule: Rule,
-    pub stands: Stands,
+    pub position: Position,
     pub orders: Orders,
     pub task: Task,
     pub counts: Counts,

@@ -15,15 +15,15 @@ use Rattle.rows.specs.declared.{Row.Row}
 use Rattle.mask.specs.Mask.{legal}
 use Rattle.hunt.specs.Hunt.{spaceRecord}
 use Rattle.held.specs.declared.Selection.the-variants.{Nothing}
-use Rattle.held.specs.declared.{Stands.Stands}
+use Rattle.held.specs.declared.{Position.Position}
 use Rattle.turn.specs.declared.Ending.the-variants.{Normal}
 use Rattle.table.specs.declared.{Rule.Rule}
 use Rattle.table.specs.Table.{ruleOf, isHome}
-use Rattle.turn.specs.declared.{Told.Told, Moving.Moving}
-use Rattle.turn.specs.Turn.{alone, movingOf, toldOf}
+use Rattle.turn.specs.declared.{Report.Report, Transfer.Transfer}
+use Rattle.turn.specs.Turn.{alone, transferOf, reportOf}
 use Rattle.command.specs.declared.{Job.Job}
-use Rattle.command.specs.Command.{task, Sight, sight, fails, endsAt, senseBytes, masked, masks, spacedPlace, spaces}
-use Rattle.ending.specs.Ending.{endedAt}
+use Rattle.command.specs.Command.{task, Sight, sight, failTurn, endTurnAt, senseBytes, maskedTurn, maskTurn, spacedPlace, spaceTurn}
+use Rattle.ending.specs.Ending.{reportAt}
 
 -- ---- the bytes of sense
 
@@ -32,7 +32,7 @@ zeros zero i = refl
 zeros (suc n) zero = refl
 zeros (suc n) (suc i) = zeros n i
 
-module _ (s : Stands) where
+module _ (s : Position) where
   -- all but the first two are 0
   pub sense-rest : (i : ℕ) → 2 ≤ i → getD (senseBytes s) i 0 ≡ 0
   unfolding senseBytes
@@ -62,16 +62,16 @@ module _ (s : Stands) where
 -- ---- Set File Mask, by its two tests
 
 pub by-tests : (x : Sight) (byte : ℕ) (a b : Bool) → a ≡ legal byte → b ≡ x .job .orders .«mask_set»
-    → toldOf (pick a (pick b (fails x Row.SecondMask) (masked x byte)) (fails x Row.BadMask)) ≡ toldOf (masks x byte)
-unfolding masks
+    → reportOf (pick a (pick b (failTurn x Row.SecondMask) (maskedTurn x byte)) (failTurn x Row.BadMask)) ≡ reportOf (maskTurn x byte)
+unfolding maskTurn
 by-tests x byte a b p q =
-    λ i. toldOf (pick (p i) (pick (q i) (fails x Row.SecondMask) (masked x byte)) (fails x Row.BadMask))
+    λ i. reportOf (pick (p i) (pick (q i) (failTurn x Row.SecondMask) (maskedTurn x byte)) (failTurn x Row.BadMask))
 
 -- ---- Space Record
 
-pub spaced : (t : List ℕ) (j : Job) (v : List ℕ) (r : Told) (p : ℕ) (home : Bool) (rule : Rule)
-    → r ≡ endedAt j (task (j .task .head) p Nothing 0) Normal Moving.None false
-    → rule ≡ ruleOf (j .orders .before) → home ≡ isHome (rule .aim) → p ≡ spaceRecord (marks t) (j .stands .place) home
-    → r ≡ toldOf (spaces (sight (alone t) j v))
-unfolding endedAt toldOf movingOf spaces spacedPlace endsAt sight
+pub spaced : (t : List ℕ) (j : Job) (v : List ℕ) (r : Report) (p : ℕ) (home : Bool) (rule : Rule)
+    → r ≡ reportAt j (task (j .task .head) p Nothing 0) Normal Transfer.None false
+    → rule ≡ ruleOf (j .orders .before) → home ≡ isHome (rule .aim) → p ≡ spaceRecord (marks t) (j .position .place) home
+    → r ≡ reportOf (spaceTurn (sight (alone t) j v))
+unfolding reportAt reportOf transferOf spaceTurn spacedPlace endTurnAt sight
 spaced t j v r p home rule d e f g = rw (d, g, f, e)

@@ -2,8 +2,8 @@
 use command::Job;
 use command::Task;
 use held::Orders;
+use held::Position;
 use held::Selection;
-use held::Stands;
 use mask::Seeking;
 use pack::Cylinder;
 use pack::Head;
@@ -13,16 +13,16 @@ use rows::Row;
 use rows::Sense;
 use table::Control;
 use turn::Ending;
-use turn::Moving;
-use turn::Told;
+use turn::Report;
+use turn::Transfer;
 ghost use mathlib.Core.Path.{_≡_};
 ghost use mathlib.Core.List.{List};
 ghost use Prim.Native.Nat.{ℕ, _+_, _-_, _≤_, min};
 ghost use lib.ListN.{length, getD};
 ghost use Rattle.cells.specs.Bytes.{be16};
-ghost use Rattle.hunt.specs.Hunt.{Whole};
-ghost use Rattle.turn.specs.Turn.{Tracks, alone, toldOf, filled};
-ghost use Rattle.command.specs.Command.{sight, fails, senseBytes, soughtBy, addressed, arrives, seeks, masked, masks, spaces, does};
+ghost use Rattle.hunt.specs.Hunt.{WholeTrack};
+ghost use Rattle.turn.specs.Turn.{Tracks, alone, reportOf, filled};
+ghost use Rattle.command.specs.Command.{sight, failTurn, senseBytes, soughtBy, addressed, arrivalTurn, seekTurn, maskedTurn, maskTurn, spaceTurn, controlTurn};
 
 // The bytes that Sense gives.
 const SENSE: u32 = 6;
@@ -32,12 +32,12 @@ const SEEK: u32 = 6;
 
 const MASK: u32 = 1;
 
-fn fails(j: Job, row: Row) -> Told
-    ensures { λ r. ⌜ ((t : Tracks) (v : List ℕ) → r ≡ toldOf (fails (sight t j v) row)) ⌝ }
+fn fails(j: Job, row: Row) -> Report
+    ensures { λ r. ⌜ ((t : Tracks) (v : List ℕ) → r ≡ reportOf (failTurn (sight t j v) row)) ⌝ }
 {
-    let stands = j.stands;
+    let position = j.position;
     let orders = j.orders;
-    ending::failed(stands, orders, row)
+    ending::failed(position, orders, row)
 }
 
 // Two of the bytes sent, as one number.
@@ -72,17 +72,17 @@ fn addressed(g: Shape, k: Seeking, c: Cylinder, sent: &[u8]) -> Sought
     sought_by(g, k, c, sent)
 }
 
-fn arrives(j: Job, x: Sought) -> Told
-    ensures { λ r. ⌜ ((t : Tracks) (v : List ℕ) → r ≡ toldOf (arrives (sight t j v) x)) ⌝ }
+fn arrives(j: Job, x: Sought) -> Report
+    ensures { λ r. ⌜ ((t : Tracks) (v : List ℕ) → r ≡ reportOf (arrivalTurn (sight t j v) x)) ⌝ }
 {
     match x {
-        Sought::Stands(c, h) => {
+        Sought::To(c, h) => {
             let task = j.task;
             let orders = ending::orders_after(j, task, false);
-            Told {
+            Report {
                 ending: Ending::Normal,
-                moving: Moving::Takes(SEEK),
-                stands: Stands {
+                transfer: Transfer::Takes(SEEK),
+                position: Position {
                     cylinder: c,
                     head: h,
                     place: 0,
@@ -95,19 +95,19 @@ fn arrives(j: Job, x: Sought) -> Told
     }
 }
 
-fn seek(g: Shape, k: Seeking, j: Job, sent: &[u8]) -> Told
-    ensures { λ r. ⌜ ((t : Tracks) → r ≡ toldOf (seeks g k (sight t j (now (sent .entry))))) ⌝ }
+fn seek(g: Shape, k: Seeking, j: Job, sent: &[u8]) -> Report
+    ensures { λ r. ⌜ ((t : Tracks) → r ≡ reportOf (seekTurn g k (sight t j (now (sent .entry))))) ⌝ }
 {
-    let cylinder = j.stands.cylinder;
+    let cylinder = j.position.cylinder;
     let x = addressed(g, k, cylinder, sent);
     arrives(j, x)
 }
 
-fn masked(j: Job, byte: u8) -> Told
-    ensures { λ r. ⌜ ((t : Tracks) (v : List ℕ) → r ≡ toldOf (masked (sight t j v) byte)) ⌝ }
+fn masked(j: Job, byte: u8) -> Report
+    ensures { λ r. ⌜ ((t : Tracks) (v : List ℕ) → r ≡ reportOf (maskedTurn (sight t j v) byte)) ⌝ }
 {
     let task = j.task;
-    let stands = ending::stands_after(j, task);
+    let position = ending::position_after(j, task);
     let orders = Orders {
         mask: byte,
         mask_set: true,
@@ -116,17 +116,17 @@ fn masked(j: Job, byte: u8) -> Told
         tally: 0,
         selection: Selection::Nothing,
     };
-    Told {
+    Report {
         ending: Ending::Normal,
-        moving: Moving::Takes(MASK),
-        stands,
+        transfer: Transfer::Takes(MASK),
+        position,
         orders,
     }
 }
 
 // A bad byte is told before a second mask.
-fn set_mask(j: Job, byte: u8) -> Told
-    ensures { λ r. ⌜ ((t : Tracks) (v : List ℕ) → r ≡ toldOf (masks (sight t j v) byte)) ⌝ }
+fn set_mask(j: Job, byte: u8) -> Report
+    ensures { λ r. ⌜ ((t : Tracks) (v : List ℕ) → r ≡ reportOf (maskTurn (sight t j v) byte)) ⌝ }
 {
     if !mask::is_legal(byte) {
         return fails(j, Row::BadMask);
@@ -137,14 +137,14 @@ fn set_mask(j: Job, byte: u8) -> Told
     masked(j, byte)
 }
 
-fn space(j: Job, track: &[u16]) -> Told
-    requires { ⌜ Whole (now track) ⌝ }
-    ensures { λ r. ⌜ ((v : List ℕ) → r ≡ toldOf (spaces (sight (alone (now (track .entry))) j v))) ⌝ }
+fn space(j: Job, track: &[u16]) -> Report
+    requires { ⌜ WholeTrack (now track) ⌝ }
+    ensures { λ r. ⌜ ((v : List ℕ) → r ≡ reportOf (spaceTurn (sight (alone (now (track .entry))) j v))) ⌝ }
 {
     let before = table::rule_of(j.orders.before);
     let aim = before.aim;
     let home = table::is_home(aim);
-    let place = hunt::space_record(track, j.stands.place, home) as u16;
+    let place = hunt::space_record(track, j.position.place, home) as u16;
     let head = j.task.head;
     let task = Task {
         head,
@@ -152,18 +152,18 @@ fn space(j: Job, track: &[u16]) -> Told
         selection: Selection::Nothing,
         tally: 0,
     };
-    ending::ended_at(j, task, Ending::Normal, Moving::None, false)
+    ending::ended_at(j, task, Ending::Normal, Transfer::None, false)
 }
 
 // What a control command tells the channel.
-pub fn control(g: Shape, k: Control, j: Job, sent: &[u8], track: &[u16]) -> Told
-    requires { ⌜ Whole (now track) ⌝ }
-    ensures { λ r. ⌜ r ≡ toldOf (does g k (sight (alone (now (track .entry))) j (now (sent .entry)))) ⌝ }
+pub fn control(g: Shape, k: Control, j: Job, sent: &[u8], track: &[u16]) -> Report
+    requires { ⌜ WholeTrack (now track) ⌝ }
+    ensures { λ r. ⌜ r ≡ reportOf (controlTurn g k (sight (alone (now (track .entry))) j (now (sent .entry)))) ⌝ }
 {
     match k {
         Control::Unknown => fails(j, Row::UnknownCode),
-        Control::NoOp => ending::ended(j, Ending::Normal, Moving::None, false),
-        Control::Sense => ending::ended(j, Ending::Normal, Moving::Gives(SENSE), false),
+        Control::NoOp => ending::ended(j, Ending::Normal, Transfer::None, false),
+        Control::Sense => ending::ended(j, Ending::Normal, Transfer::Gives(SENSE), false),
         Control::Seek(s) => seek(g, s, j, sent),
         Control::SetMask => set_mask(j, cells::byte_at(sent, 0)),
         Control::SpaceRecord => space(j, track),
@@ -171,7 +171,7 @@ pub fn control(g: Shape, k: Control, j: Job, sent: &[u8], track: &[u16]) -> Told
 }
 
 // Byte i of what Sense gives.
-fn sense_byte(s: Stands, i: usize) -> u8
+fn sense_byte(s: Position, i: usize) -> u8
     ensures { λ r. ⌜ r ≡ getD (senseBytes s) i 0 ⌝ }
 {
     if i == 0 {
@@ -194,7 +194,7 @@ fn sense_left(from: u32, most: usize) -> usize
 }
 
 // The bytes that Sense gives, from one on, put into lent bytes, as many as find room.
-pub fn give_sense(s: Stands, from: u32, into: &mut [u8])
+pub fn give_sense(s: Position, from: u32, into: &mut [u8])
     ensures { λ _. ⌜ now (into .exit) ≡ filled (now (into .entry)) from (senseBytes s) ⌝ }
 {
     let first = from as usize;

@@ -3,26 +3,26 @@ use mathlib.Core.Path.{_≡_, refl}
 use mathlib.Core.Bool.{Bool}
 use mathlib.Core.List.{List}
 use Rattle.rows.specs.declared.{Row.Row}
-use Rattle.held.specs.declared.{Stands.Stands, Orders.Orders}
+use Rattle.held.specs.declared.{Position.Position, Orders.Orders}
 use Rattle.turn.specs.declared.{Ending.Ending}
-use Rattle.turn.specs.Turn.{Lies, Piece, Moves, movingOf, toldOf, checks}
+use Rattle.turn.specs.Turn.{TrackArea, Piece, Moves, transferOf, reportOf, checkTurn}
 use Rattle.command.specs.declared.{Task.Task}
-use Rattle.command.specs.Command.{Sight, fails, endsAt, ends}
-use Rattle.ending.specs.Ending.{endedAt, failedAt}
+use Rattle.command.specs.Command.{Sight, failTurn, endTurnAt, endTurn}
+use Rattle.ending.specs.Ending.{reportAt, checkReport}
 
 module _ (x : Sight) (e : Ending) (m : Moves) (l : List Piece) (whole : Bool) where
-  pub ended-at : (k : Task) → toldOf (endsAt x k e m l whole) ≡ endedAt (x .job) k e (movingOf m) whole
-  unfolding toldOf endsAt endedAt
+  pub ended-at : (k : Task) → reportOf (endTurnAt x k e m l whole) ≡ reportAt (x .job) k e (transferOf m) whole
+  unfolding reportOf endTurnAt reportAt
   ended-at k = refl
 
-  pub ended : toldOf (ends x e m l whole) ≡ endedAt (x .job) (x .job .task) e (movingOf m) whole
-  unfolding ends
+  pub ended : reportOf (endTurn x e m l whole) ≡ reportAt (x .job) (x .job .task) e (transferOf m) whole
+  unfolding endTurn
   ended = ended-at (x .job .task)
 
-pub failed : (s : Stands) (o : Orders) (l : List Lies) (row : Row) → toldOf (checks s o l row) ≡ failedAt s o row
-unfolding toldOf checks failedAt movingOf
+pub failed : (s : Position) (o : Orders) (l : List TrackArea) (row : Row) → reportOf (checkTurn s o l row) ≡ checkReport s o row
+unfolding reportOf checkTurn checkReport transferOf
 failed s o l row = refl
 
-pub failed-by : (x : Sight) (row : Row) → toldOf (fails x row) ≡ failedAt (x .job .stands) (x .job .orders) row
-unfolding fails
-failed-by x row = failed (x .job .stands) (x .job .orders) (x .reads) row
+pub failed-by : (x : Sight) (row : Row) → reportOf (failTurn x row) ≡ checkReport (x .job .position) (x .job .orders) row
+unfolding failTurn
+failed-by x row = failed (x .job .position) (x .job .orders) (x .reads) row

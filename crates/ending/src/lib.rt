@@ -2,15 +2,15 @@
 use command::Job;
 use command::Task;
 use held::Orders;
-use held::Stands;
+use held::Position;
 use rows::Row;
 use rows::Sense;
 use turn::Ending;
-use turn::Moving;
-use turn::Told;
+use turn::Report;
+use turn::Transfer;
 ghost use mathlib.Core.Path.{_≡_};
-ghost use Rattle.command.specs.Command.{endingOf, senseAfter, standsAfter, ordersAfter};
-ghost use Rattle.ending.specs.Ending.{endedAt, failedAt};
+ghost use Rattle.command.specs.Command.{endingOf, senseAfter, positionAfter, ordersAfter};
+ghost use Rattle.ending.specs.Ending.{reportAt, checkReport};
 
 // Commands but Sense and No-op clear sense first.
 fn sense_after(j: Job) -> Sense
@@ -19,18 +19,18 @@ fn sense_after(j: Job) -> Sense
     if j.rule.clears {
         return Sense { byte0: 0, byte1: 0 };
     }
-    let stands = j.stands;
-    stands.sense
+    let position = j.position;
+    position.sense
 }
 
 // Where the head stands after a job that ends at the place of a task.
-pub fn stands_after(j: Job, k: Task) -> Stands
-    ensures { λ r. ⌜ r ≡ standsAfter j k ⌝ }
+pub fn position_after(j: Job, k: Task) -> Position
+    ensures { λ r. ⌜ r ≡ positionAfter j k ⌝ }
 {
     let sense = sense_after(j);
-    let cylinder = j.stands.cylinder;
+    let cylinder = j.position.cylinder;
     let head = k.head;
-    Stands {
+    Position {
         cylinder,
         head,
         place: k.place,
@@ -55,25 +55,25 @@ pub fn orders_after(j: Job, k: Task, whole: bool) -> Orders
 }
 
 // A job ends at the place of a task.
-pub fn ended_at(j: Job, k: Task, ending: Ending, moving: Moving, whole: bool) -> Told
-    ensures { λ r. ⌜ r ≡ endedAt j k ending moving whole ⌝ }
+pub fn ended_at(j: Job, k: Task, ending: Ending, transfer: Transfer, whole: bool) -> Report
+    ensures { λ r. ⌜ r ≡ reportAt j k ending transfer whole ⌝ }
 {
-    let stands = stands_after(j, k);
+    let position = position_after(j, k);
     let orders = orders_after(j, k, whole);
-    Told {
+    Report {
         ending,
-        moving,
-        stands,
+        transfer,
+        position,
         orders,
     }
 }
 
 // A job ends at its own place.
-pub fn ended(j: Job, ending: Ending, moving: Moving, whole: bool) -> Told
-    ensures { λ r. ⌜ r ≡ endedAt j (j .task) ending moving whole ⌝ }
+pub fn ended(j: Job, ending: Ending, transfer: Transfer, whole: bool) -> Report
+    ensures { λ r. ⌜ r ≡ reportAt j (j .task) ending transfer whole ⌝ }
 {
     let task = j.task;
-    ended_at(j, task, ending, moving, whole)
+    ended_at(j, task, ending, transfer, whole)
 }
 
 // DL = 0 is Unit Exception, where the row says so.
@@ -89,16 +89,16 @@ pub fn ending_of(j: Job) -> Ending
 }
 
 // Unit Check for a row of the table.
-pub fn failed(s: Stands, o: Orders, row: Row) -> Told
-    ensures { λ r. ⌜ r ≡ failedAt s o row ⌝ }
+pub fn failed(s: Position, o: Orders, row: Row) -> Report
+    ensures { λ r. ⌜ r ≡ checkReport s o row ⌝ }
 {
     let sense = rows::sense_of(row);
     let cylinder = s.cylinder;
     let head = s.head;
-    Told {
+    Report {
         ending: Ending::Check(row),
-        moving: Moving::Takes(rows::row_takes(row)),
-        stands: Stands {
+        transfer: Transfer::Takes(rows::row_takes(row)),
+        position: Position {
             cylinder,
             head,
             place: s.place,

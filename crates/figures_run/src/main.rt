@@ -127,7 +127,7 @@ fn lay_chain(storage: &mut [u8])
 
 fn search_line(held: Held, storage: &[u8]) {
     going_text(held.channel.going);
-    let sense = held.stands.sense;
+    let sense = held.position.sense;
     io::write_all(STDOUT_FILENO, b", sense ");
     io::write_all(STDOUT_FILENO, &hex(cells::pair(sense.byte0, sense.byte1)));
     io::write_all(STDOUT_FILENO, b", status word");

@@ -13,11 +13,11 @@ use borrow.Author.Tests.{eqb-true, ltb-true}
 use Rattle.cells.specs.Choice.{pick, both}
 use Rattle.cells.specs.Bytes.{be16}
 use Rattle.cells.proofs.Numbers.{Bytes}
-use Rattle.hunt.specs.declared.Spot.the-variants.{Zero, Marker}
+use Rattle.hunt.specs.declared.Spot.the-variants.{R0, Marker}
 use Rattle.held.specs.declared.{Selection.Selection, Held.Held}
 use Rattle.held.specs.declared.Selection.the-variants.{Nothing, On}
 use Rattle.held.specs.declared.Kept.the-variants.{Holds, Wrong}
-use Rattle.held.specs.Held.{fresh, freshStands, freshOrders, freshChannel}
+use Rattle.held.specs.Held.{fresh, freshPosition, freshOrders, freshChannel}
 use Rattle.held.specs.Bytes.{heldBytes, layout, bit, selectionNo, selectionCell, encoded, InRange, isBit, allZero, isSet, cellFits, encodes, selectionIn, decoded, kept}
 
 -- ---- numbers taken apart and put together
@@ -34,12 +34,12 @@ set-bit false = refl
 
 -- the selection's byte and its cell
 unfoldable said : ℕ → ℕ → Selection
-said n cell = pick (eqb n 0) Nothing (pick (eqb n 1) (On Zero) (On (Marker cell)))
+said n cell = pick (eqb n 0) Nothing (pick (eqb n 1) (On R0) (On (Marker cell)))
 
 said-back : (s : Selection) → said (selectionNo s) (selectionCell s / 256 * 256 + selectionCell s % 256) ≡ s
 unfolding said
 said-back Nothing = refl
-said-back (On Zero) = refl
+said-back (On R0) = refl
 said-back (On (Marker p)) = ap (λ (n : ℕ). On (Marker n)) (two-back p)
 
 -- ---- a state's bytes say that state
@@ -55,7 +55,7 @@ is-bit false = refl
 selection-fits : (s : Selection)
     → both (ltb (selectionNo s) 3) (both (pick (eqb (selectionNo s) 2) true (eqb (selectionCell s / 256 * 256 + selectionCell s % 256) 0)) true) ≡ true
 selection-fits Nothing = refl
-selection-fits (On Zero) = refl
+selection-fits (On R0) = refl
 selection-fits (On (Marker p)) = refl
 
 pub encodes-encoded : (h : Held) → encodes (encoded h) ≡ true
@@ -65,11 +65,11 @@ encodes-encoded h = simp is-bit (selection-fits (h .orders .selection))
 pub decoded-encoded : (h : Held) → decoded (encoded h) ≡ h
 unfolding decoded encoded selectionIn said
 decoded-encoded h = λ i. record {
-  stands = record {
-    cylinder = record { 0 = two-back (h .stands .cylinder .0) i };
-    head = record { 0 = two-back (h .stands .head .0) i };
-    place = two-back (h .stands .place) i;
-    sense = h .stands .sense;
+  position = record {
+    cylinder = record { 0 = two-back (h .position .cylinder .0) i };
+    head = record { 0 = two-back (h .position .head .0) i };
+    place = two-back (h .position .place) i;
+    sense = h .position .sense;
   };
   orders = record {
     mask = h .orders .mask;
@@ -98,7 +98,7 @@ pub fresh-bytes : encoded fresh
     ∷ 0 ∷ 0 ∷ 0 ∷ 0 ∷ 0 ∷ 0 ∷ 0 ∷ 0 ∷ 0 ∷ 0 ∷ 0 ∷ 0 ∷ 0 ∷ 0 ∷ 0 ∷ 0
     ∷ 0 ∷ 0 ∷ 0 ∷ 0 ∷ 0 ∷ 0 ∷ 0 ∷ 0 ∷ 0 ∷ 0 ∷ 0 ∷ 0 ∷ 0 ∷ 0 ∷ 0 ∷ 0
     ∷ 0 ∷ 0 ∷ 0 ∷ 0 ∷ 0 ∷ 0 ∷ 0 ∷ 0 ∷ 0 ∷ 0 ∷ 0 ∷ 0 ∷ 0 ∷ 0 ∷ 0 ∷ 0 ∷ []
-unfolding encoded fresh freshStands freshOrders freshChannel
+unfolding encoded fresh freshPosition freshOrders freshChannel
 fresh-bytes = refl
 
 -- ---- the bytes of a state in range are bytes
@@ -123,7 +123,7 @@ bit-byte false = lit< tt
 
 no-byte : (s : Selection) → selectionNo s < 256
 no-byte Nothing = lit< tt
-no-byte (On Zero) = lit< tt
+no-byte (On R0) = lit< tt
 no-byte (On (Marker p)) = lit< tt
 
 high-byte : (n : ℕ) → n < 65536 → n / 256 < 256
@@ -154,12 +154,12 @@ encoded-bytes h r =
     & lit< tt
     & high-byte (selectionCell (h .orders .selection)) (r .cell)
     & low-byte (selectionCell (h .orders .selection))
-    & high-byte (h .stands .cylinder .0) (r .cylinder)
-    & low-byte (h .stands .cylinder .0)
-    & high-byte (h .stands .head .0) (r .head)
-    & low-byte (h .stands .head .0)
-    & high-byte (h .stands .place) (r .place)
-    & low-byte (h .stands .place)
+    & high-byte (h .position .cylinder .0) (r .cylinder)
+    & low-byte (h .position .cylinder .0)
+    & high-byte (h .position .head .0) (r .head)
+    & low-byte (h .position .head .0)
+    & high-byte (h .position .place) (r .place)
+    & low-byte (h .position .place)
     & top-byte n (r .next)
     & low-byte (n / 65536)
     & low-byte (n / 256)

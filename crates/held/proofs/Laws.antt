@@ -13,7 +13,7 @@ use Rattle.cells.specs.Choice.{both}
 use Rattle.cells.specs.Bytes.{part, overlay, padded}
 use Rattle.cells.proofs.Laws.{overlay-snoc, overlay-append, length-padded, padded-snoc}
 use Rattle.held.specs.declared.{Held.Held}
-use Rattle.held.specs.Bytes.{heldBytes, layout, encoded, allZero, flagsFit, selectionFits, encodes}
+use Rattle.held.specs.Bytes.{heldBytes, layout, encoded, allZero, flagsFit, selectionEncoded, encodes}
 
 -- ---- bytes looked at one by one
 
@@ -39,8 +39,8 @@ pair-first true b x = refl
 pair-first false b x = refl
 
 pub by-runs : (v : List ℕ) → encodes v
-    ≡ both (eqb (length v) heldBytes) (both (eqb (getD v 11 0) layout) (both (flagsFit v) (both (selectionFits v) (allZero (drop 24 v)))))
-unfolding encodes flagsFit selectionFits
+    ≡ both (eqb (length v) heldBytes) (both (eqb (getD v 11 0) layout) (both (flagsFit v) (both (selectionEncoded v) (allZero (drop 24 v)))))
+unfolding encodes flagsFit selectionEncoded
 by-runs v = simp pair-first
 
 -- ---- the bytes stored

@@ -25,12 +25,12 @@ bit false = 0
 -- a selection's number, and its marker's cell, zero if none
 abbrev pub selectionNo : Selection → ℕ
 selectionNo Selection.Nothing = 0
-selectionNo (Selection.On Spot.Zero) = 1
+selectionNo (Selection.On Spot.R0) = 1
 selectionNo (Selection.On (Spot.Marker p)) = 2
 
 abbrev pub selectionCell : Selection → ℕ
 selectionCell Selection.Nothing = 0
-selectionCell (Selection.On Spot.Zero) = 0
+selectionCell (Selection.On Spot.R0) = 0
 selectionCell (Selection.On (Spot.Marker p)) = p
 
 abbrev pub two : ℕ → List ℕ
@@ -46,8 +46,8 @@ encoded h =
     ∷ h .channel .key  -- 1
     ∷ h .orders .mask  -- 2
     ∷ bit (h .orders .«mask_set»)  -- 3
-    ∷ h .stands .sense .byte0  -- 4
-    ∷ h .stands .sense .byte1  -- 5
+    ∷ h .position .sense .byte0  -- 4
+    ∷ h .position .sense .byte1  -- 5
     ∷ bit (h .channel .«after_tic»)  -- 6
     ∷ h .orders .before  -- 7
     ∷ bit (h .orders .whole)  -- 8
@@ -55,9 +55,9 @@ encoded h =
     ∷ selectionNo (h .orders .selection)  -- 10
     ∷ layout  -- 11
     ∷ (two (selectionCell (h .orders .selection))  -- 12, 13
-    ++ two (h .stands .cylinder .0)  -- 14, 15
-    ++ two (h .stands .head .0)  -- 16, 17
-    ++ two (h .stands .place)  -- 18, 19
+    ++ two (h .position .cylinder .0)  -- 14, 15
+    ++ two (h .position .head .0)  -- 16, 17
+    ++ two (h .position .place)  -- 18, 19
     ++ four (h .channel .next)  -- 20 to 23
     ++ replicate 40 0)  -- 24 to 63
 
@@ -69,11 +69,11 @@ pub record InRange (h : Held) : Type 0 where
   pub before : h .orders .before < 256
   pub tally : h .orders .tally < 256
   pub cell : selectionCell (h .orders .selection) < 65536
-  pub byte0 : h .stands .sense .byte0 < 256
-  pub byte1 : h .stands .sense .byte1 < 256
-  pub cylinder : h .stands .cylinder .0 < 65536
-  pub head : h .stands .head .0 < 65536
-  pub place : h .stands .place < 65536
+  pub byte0 : h .position .sense .byte0 < 256
+  pub byte1 : h .position .sense .byte1 < 256
+  pub cylinder : h .position .cylinder .0 < 65536
+  pub head : h .position .head .0 < 65536
+  pub place : h .position .place < 65536
 
 -- ---- bytes that encode a held state
 
@@ -95,8 +95,8 @@ cellFits v = pick (eqb (getD v 10 0) 2) true (eqb (be16 v 12) 0)
 unfoldable pub flagsFit : List ℕ → Bool
 flagsFit v = both (isBit (getD v 0 0)) (both (isBit (getD v 3 0)) (both (isBit (getD v 6 0)) (isBit (getD v 8 0))))
 
-unfoldable pub selectionFits : List ℕ → Bool
-selectionFits v = both (ltb (getD v 10 0) 3) (cellFits v)
+unfoldable pub selectionEncoded : List ℕ → Bool
+selectionEncoded v = both (ltb (getD v 10 0) 3) (cellFits v)
 
 -- length, layout, flags, selection, zeros
 unfoldable pub encodes : List ℕ → Bool
@@ -113,7 +113,7 @@ encodes v =
 
 unfoldable pub selectionIn : List ℕ → Selection
 selectionIn v =
-    pick (eqb (getD v 10 0) 0) Selection.Nothing (pick (eqb (getD v 10 0) 1) (Selection.On Spot.Zero) (Selection.On (Spot.Marker (be16 v 12))))
+    pick (eqb (getD v 10 0) 0) Selection.Nothing (pick (eqb (getD v 10 0) 1) (Selection.On Spot.R0) (Selection.On (Spot.Marker (be16 v 12))))
 
 abbrev pub be32 : List ℕ → ℕ → ℕ
 be32 v at = getD v at 0 * 16777216 + be24 v (at + 1)
@@ -121,7 +121,7 @@ be32 v at = getD v at 0 * 16777216 + be24 v (at + 1)
 -- what 64 bytes say, if they encode a held state
 unfoldable pub decoded : List ℕ → Held
 decoded v = record {
-  stands = record {
+  position = record {
     cylinder = cylinder (be16 v 14);
     head = head (be16 v 16);
     place = be16 v 18;

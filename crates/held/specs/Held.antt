@@ -2,11 +2,11 @@
 use mathlib.Core.Bool.{false}
 use Rattle.rows.specs.Rows.{sense}
 use Rattle.pack.specs.Shapes.{cylinder, head}
-use Rattle.held.specs.declared.{Selection.Selection, Stands.Stands, Orders.Orders, Channel.Channel, Held.Held}
+use Rattle.held.specs.declared.{Selection.Selection, Position.Position, Orders.Orders, Channel.Channel, Held.Held}
 
 -- a fresh box stands at cylinder 0, head 0, place 0, with mask 0, sense all zero and no chain going
-unfoldable pub freshStands : Stands
-freshStands = record { cylinder = cylinder 0; head = head 0; place = 0; sense = sense 0 0 }
+unfoldable pub freshPosition : Position
+freshPosition = record { cylinder = cylinder 0; head = head 0; place = 0; sense = sense 0 0 }
 
 -- each chain starts with mask 0, none set yet, no selection, no command before and index tally 0
 unfoldable pub freshOrders : Orders
@@ -16,8 +16,8 @@ unfoldable pub freshChannel : Channel
 freshChannel = record { going = false; key = 0; next = 0; «after_tic» = false }
 
 unfoldable pub fresh : Held
-fresh = record { stands = freshStands; orders = freshOrders; channel = freshChannel }
+fresh = record { position = freshPosition; orders = freshOrders; channel = freshChannel }
 
 -- chain end puts all back as in a fresh box, but cylinder, head, place and sense
-unfoldable pub rested : Stands → Held
-rested s = record { stands = s; orders = fresh .orders; channel = fresh .channel }
+unfoldable pub rested : Position → Held
+rested s = record { position = s; orders = fresh .orders; channel = fresh .channel }

@@ -10,7 +10,7 @@ ghost use lib.ListN.{length, getD, drop};
 ghost use Rattle.cells.specs.Choice.{pick};
 ghost use Rattle.cells.specs.Bytes.{be16, overlay, padded, part};
 ghost use Rattle.held.specs.Held.{fresh, rested};
-ghost use Rattle.held.specs.Bytes.{heldBytes, bit, selectionNo, selectionCell, encoded, allZero, flagsFit, selectionFits, encodes, isSet, selectionIn, be32, decoded, kept};
+ghost use Rattle.held.specs.Bytes.{heldBytes, bit, selectionNo, selectionCell, encoded, allZero, flagsFit, selectionEncoded, encodes, isSet, selectionIn, be32, decoded, kept};
 
 // The record selected for the very next command, if one is.
 pub enum Selection {
@@ -19,7 +19,7 @@ pub enum Selection {
 }
 
 // Where the head stands, and what sense says: this survives a chain.
-pub struct Stands {
+pub struct Position {
     pub cylinder: Cylinder,
     pub head: Head,
     pub place: u16,
@@ -47,7 +47,7 @@ pub struct Channel {
 }
 
 pub struct Held {
-    pub stands: Stands,
+    pub position: Position,
     pub orders: Orders,
     pub channel: Channel,
 }
@@ -64,7 +64,7 @@ impl Held {
         ensures { λ r. ⌜ r ≡ fresh ⌝ }
     {
         Held {
-            stands: Stands {
+            position: Position {
                 cylinder: Cylinder(0),
                 head: Head(0),
                 place: 0,
@@ -88,14 +88,14 @@ impl Held {
     }
 
     // At a chain's end: the fresh box, but for where it stands and what sense says.
-    pub fn rested(stands: Stands) -> Held
-        ensures { λ r. ⌜ r ≡ rested stands ⌝ }
+    pub fn rested(position: Position) -> Held
+        ensures { λ r. ⌜ r ≡ rested position ⌝ }
     {
         let clean = Held::fresh();
         let orders = clean.orders;
         let channel = clean.channel;
         Held {
-            stands,
+            position,
             orders,
             channel,
         }
@@ -162,7 +162,7 @@ fn flags_fit(bytes: &[u8]) -> bool
 
 // Whether the selection is one, with a marker's cell only where a marker is selected.
 fn selection_fits(bytes: &[u8]) -> bool
-    ensures { λ r. ⌜ r ≡ selectionFits (now (bytes .entry)) ⌝ }
+    ensures { λ r. ⌜ r ≡ selectionEncoded (now (bytes .entry)) ⌝ }
 {
     let selection = cells::byte_at(bytes, 10);
     selection < 3 && (selection == 2 || pair_at(bytes, 12) == 0)
@@ -189,15 +189,15 @@ fn selection_in(bytes: &[u8]) -> Selection
         return Selection::Nothing;
     }
     if selection == 1 {
-        return Selection::On(Spot::Zero);
+        return Selection::On(Spot::R0);
     }
     Selection::On(Spot::Marker(pair_at(bytes, 12)))
 }
 
-fn stands_in(bytes: &[u8]) -> Stands
-    ensures { λ r. ⌜ r ≡ decoded (now (bytes .entry)) .stands ⌝ }
+fn position_in(bytes: &[u8]) -> Position
+    ensures { λ r. ⌜ r ≡ decoded (now (bytes .entry)) .position ⌝ }
 {
-    Stands {
+    Position {
         cylinder: Cylinder(pair_at(bytes, 14)),
         head: Head(pair_at(bytes, 16)),
         place: pair_at(bytes, 18),
@@ -236,7 +236,7 @@ fn held_in(bytes: &[u8]) -> Held
     ensures { λ r. ⌜ r ≡ decoded (now (bytes .entry)) ⌝ }
 {
     Held {
-        stands: stands_in(bytes),
+        position: position_in(bytes),
         orders: orders_in(bytes),
         channel: channel_in(bytes),
     }
@@ -276,7 +276,7 @@ fn selection_no(selection: Selection) -> u8
     match selection {
         Selection::Nothing => 0,
         Selection::On(spot) => match spot {
-            Spot::Zero => 1,
+            Spot::R0 => 1,
             Spot::Marker(_) => 2,
         },
     }
@@ -289,7 +289,7 @@ fn selection_cell(selection: Selection) -> u16
     match selection {
         Selection::Nothing => 0,
         Selection::On(spot) => match spot {
-            Spot::Zero => 0,
+            Spot::R0 => 0,
             Spot::Marker(p) => p,
         },
     }
@@ -306,8 +306,8 @@ fn first_bytes(h: Held) -> [u8; 12]
         h.channel.key,
         h.orders.mask,
         bit_of(h.orders.mask_set),
-        h.stands.sense.byte0,
-        h.stands.sense.byte1,
+        h.position.sense.byte0,
+        h.position.sense.byte1,
         bit_of(h.channel.after_tic),
         h.orders.before,
         bit_of(h.orders.whole),
@@ -324,9 +324,9 @@ fn second_bytes(h: Held) -> [u8; 12]
     let orders = h.orders;
     let selection = orders.selection;
     let cell = selection_cell(selection);
-    let cylinder = h.stands.cylinder.0;
-    let head = h.stands.head.0;
-    let place = h.stands.place;
+    let cylinder = h.position.cylinder.0;
+    let head = h.position.head.0;
+    let place = h.position.place;
     let next = h.channel.next;
     let top = (next / 16777216) as u8;
     let upper = (next / 65536 % 256) as u8;

@@ -11,9 +11,9 @@ use Rattle.cells.specs.Choice.{pick}
 use Rattle.cells.proofs.Tests.{first-of, second-of, both-of}
 use Rattle.pack.specs.declared.{Shape.Shape}
 use Rattle.pack.specs.Shapes.{mostCylinders, mostHeads, from1To, packFits}
-use Rattle.pack.specs.Tracks.{Whole}
+use Rattle.pack.specs.Tracks.{WholePack}
 use Rattle.chain.specs.Step.{World}
-use Rattle.chain.specs.Legal.{storageFits, standsFit, channelFits, heldFits, Legal}
+use Rattle.chain.specs.Legal.{storageFits, positionFits, channelFits, heldFits, Legal}
 use Rattle.host.specs.declared.{Answer.Answer}
 use Rattle.host.specs.declared.Answer.the-variants.{BadStorage, BadPack, BadHeld}
 use Rattle.host.specs.declared.Guarded.the-variants.{Passes, Answers}
@@ -21,7 +21,7 @@ use Rattle.host.specs.Host.{guardOf}
 
 -- ---- refusal 3
 
-pub fits-whole : (g : Shape) (cells : List ℕ) → packFits g (length cells) ≡ true → Whole g cells
+pub fits-whole : (g : Shape) (cells : List ℕ) → packFits g (length cells) ≡ true → WholePack g cells
 unfolding packFits
 fits-whole g cells e =
     let f = second-of (from1To mostCylinders (g .cylinders)) _ e in
@@ -48,11 +48,11 @@ module _ (g : Shape) (w : World) where
   unfolding guardOf storageFits heldFits
   passes-legal e =
       let t = by (storageFits (length (w .storage))) (packFits g (length (w .cells))) (heldFits g w) e in
-      let f = second-of (standsFit g (w .held .stands)) _ (t .2) in
+      let f = second-of (positionFits g (w .held .position)) _ (t .2) in
       record {
         whole = fits-whole g (w .cells) (t .1);
         room = leb-true _ _ (first-of (leb 80 (length (w .storage))) _ (t .0));
-        standing = first-of (standsFit g (w .held .stands)) _ (t .2);
+        standing = first-of (positionFits g (w .held .position)) _ (t .2);
         channeled = first-of (channelFits (w .held .channel)) _ f;
         ordered = second-of (channelFits (w .held .channel)) _ f;
       }

@@ -18,7 +18,7 @@ use Rattle.words.specs.declared.Begun.the-variants.{Begins, Refused}
 use Rattle.words.specs.declared.Tested.the-variants.{Obey, Jump, Bad}
 use Rattle.words.specs.Words.{along, begunBy, tested}
 use Rattle.hunt.specs.declared.{Spot.Spot}
-use Rattle.hunt.specs.declared.Spot.the-variants.{Zero, Marker}
+use Rattle.hunt.specs.declared.Spot.the-variants.{R0, Marker}
 use Rattle.pack.specs.declared.{Shape.Shape}
 use Rattle.pack.specs.Shapes.{packFits}
 use Rattle.pack.specs.Tracks.{startOf, trackAt}
@@ -27,8 +27,8 @@ use Rattle.table.specs.declared.{Rule.Rule}
 use Rattle.table.specs.Table.{ruleOf}
 use Rattle.held.specs.declared.{Selection.Selection, Orders.Orders, Held.Held}
 use Rattle.held.specs.declared.Selection.the-variants.{Nothing, On}
-use Rattle.chain.specs.Step.{World, world, under, selected, run}
-use Rattle.chain.specs.Legal.{storageFits, standsFit, channelFits, selectionFits, ordersFit, heldFits}
+use Rattle.chain.specs.Step.{World, world, under, trackUnder, run}
+use Rattle.chain.specs.Legal.{storageFits, positionFits, channelFits, selectionFits, ordersFit, heldFits}
 use Rattle.hunt.specs.Hunt.{spotFits}
 use Rattle.host.specs.declared.{Answer.Answer, Guarded.Guarded}
 use Rattle.host.specs.declared.Answer.the-variants.{ChainEnded, AllowanceUsed, BadStorage, BadPack, BadHeld, NoChain, ChainGoing}
@@ -40,7 +40,7 @@ hears-eq p q r u = λ i. hears (p i) (world (q i) (r i) (u i))
 
 -- ---- the selection
 
-pub spot-zero : (m : List Bool) (s : Spot) → s ≡ Zero → true ≡ spotFits m s
+pub spot-zero : (m : List Bool) (s : Spot) → s ≡ R0 → true ≡ spotFits m s
 unfolding spotFits
 spot-zero m s e = ap (spotFits m) (sym e)
 
@@ -73,10 +73,10 @@ module _ (m : List Bool) (o : Orders) (b : Bool) (e : b ≡ legal (o .mask)) whe
 
 -- ---- refusal 4
 
-module _ (g : Shape) (h : Held) (cells : List ℕ) (b : Bool) (e : b ≡ standsFit g (h .stands)) where
-  all : (s : List ℕ) → (x y z : Bool) → standsFit g (h .stands) ≡ x → channelFits (h .channel) ≡ y
+module _ (g : Shape) (h : Held) (cells : List ℕ) (b : Bool) (e : b ≡ positionFits g (h .position)) where
+  all : (s : List ℕ) → (x y z : Bool) → positionFits g (h .position) ≡ x → channelFits (h .channel) ≡ y
       → ordersFit (marks (trackAt cells (under g h))) (h .orders) ≡ z → both x (both y z) ≡ heldFits g (world h s cells)
-  unfolding heldFits selected
+  unfolding heldFits trackUnder
   all s x y z p q r = λ i. both (sym p i) (both (sym q i) (sym r i))
 
   pub bad-stands : b ≡ false → (s : List ℕ) → false ≡ heldFits g (world h s cells)
@@ -85,7 +85,7 @@ module _ (g : Shape) (h : Held) (cells : List ℕ) (b : Bool) (e : b ≡ standsF
   pub bad-channel : b ≡ true → (y : Bool) → y ≡ channelFits (h .channel) → y ≡ false → (s : List ℕ) → false ≡ heldFits g (world h s cells)
   bad-channel f y p q s = all s true false _ (sym e ∙ f) (sym p ∙ q) refl
 
-  pub by-orders : b ≡ true → (y : Bool) → y ≡ channelFits (h .channel) → y ≡ true → (a : ℕ) → a ≡ startOf g (h .stands .cylinder) (h .stands .head)
+  pub by-orders : b ≡ true → (y : Bool) → y ≡ channelFits (h .channel) → y ≡ true → (a : ℕ) → a ≡ startOf g (h .position .cylinder) (h .position .head)
       → (z : Bool) → z ≡ ordersFit (marks (take (a + 4096 - a) (drop a cells))) (h .orders) → (s : List ℕ) → z ≡ heldFits g (world h s cells)
   unfolding under
   by-orders f y p q a at z r s =

@@ -61,7 +61,7 @@ refusesStart w = hears Answer.BadStart (world (w .held) (overlay (w .storage) 68
 -- a good start resets all but cylinder, head, place and sense
 unfoldable pub beginning : Held → ℕ → ℕ → Held
 beginning h key next = record {
-  stands = h .stands;
+  position = h .position;
   orders = fresh .orders;
   channel = record { going = true; key = key; next = next; «after_tic» = false };
 }

@@ -2,8 +2,8 @@
 use held::Channel;
 use held::Held;
 use held::Orders;
+use held::Position;
 use held::Selection;
-use held::Stands;
 use hunt::Spot;
 use pack::Shape;
 use words::Begun;
@@ -16,10 +16,10 @@ ghost use mathlib.Core.Bool.{false};
 ghost use Rattle.cells.specs.Choice.{pick};
 ghost use Rattle.cells.specs.Cells.{marks};
 ghost use Rattle.words.specs.Words.{begunBy, tested};
-ghost use Rattle.pack.specs.Tracks.{Whole, On};
+ghost use Rattle.pack.specs.Tracks.{WholePack, On};
 ghost use Rattle.chain.specs.Step.{world};
 ghost use Rattle.hunt.specs.Hunt.{spotFits};
-ghost use Rattle.chain.specs.Legal.{storageFits, standsFit, channelFits, selectionFits, ordersFit, heldFits};
+ghost use Rattle.chain.specs.Legal.{storageFits, positionFits, channelFits, selectionFits, ordersFit, heldFits};
 ghost use Rattle.host.specs.Host.{hears, guardOf, wrongHeld, refusesStart, beginning, firstWord, begins, starts, goes, answerNo};
 
 // Refusal 2's limits, 4's on key, next address, place and tally, and a track's cells.
@@ -87,8 +87,8 @@ fn storage_fits(n: usize) -> bool
     LEAST_STORAGE <= n && n <= MOST_STORAGE
 }
 
-fn stands_fit(g: Shape, s: Stands) -> bool
-    ensures { λ r. ⌜ r ≡ standsFit g s ⌝ }
+fn position_fits(g: Shape, s: Position) -> bool
+    ensures { λ r. ⌜ r ≡ positionFits g s ⌝ }
 {
     let cylinder = s.cylinder.0 as u32;
     cylinder < g.cylinders && ((s.head.0 as u32) < g.heads && s.place <= TRACK_CELLS)
@@ -113,7 +113,7 @@ fn spot_fits(track: &[u16], spot: Spot) -> bool
     ensures { λ r. ⌜ r ≡ spotFits (marks (now (track .entry))) spot ⌝ }
 {
     match spot {
-        Spot::Zero => true,
+        Spot::R0 => true,
         Spot::Marker(p) => hunt::is_marker(track, p),
     }
 }
@@ -127,11 +127,11 @@ fn orders_fit(track: &[u16], o: Orders) -> bool
 
 // Refusal 4. It looks at one track at most.
 fn held_fits(g: Shape, h: Held, cells: &[u16]) -> bool
-    requires { ⌜ Whole g (now cells) ⌝ }
+    requires { ⌜ WholePack g (now cells) ⌝ }
     ensures { λ r. ⌜ ((s : List ℕ) → r ≡ heldFits g (world h s (now (cells .entry)))) ⌝ }
 {
-    let stands = h.stands;
-    if !stands_fit(g, stands) {
+    let position = h.position;
+    if !position_fits(g, position) {
         return false;
     }
     let channel = h.channel;
@@ -139,8 +139,8 @@ fn held_fits(g: Shape, h: Held, cells: &[u16]) -> bool
         return false;
     }
     let orders = h.orders;
-    let cylinder = stands.cylinder;
-    let head = stands.head;
+    let cylinder = position.cylinder;
+    let head = position.head;
     let start = pack::start_of(g, cylinder, head);
     orders_fit(&cells[start..start + TRACK_CELLS as usize], orders)
 }
@@ -190,7 +190,7 @@ fn refuse(h: Held, storage: &mut [u8]) -> Heard
 fn begun(h: Held, key: u8, next: u32) -> Held
     ensures { λ r. ⌜ r ≡ beginning h key next ⌝ }
 {
-    let stands = h.stands;
+    let position = h.position;
     let clean = Held::fresh();
     let orders = clean.orders;
     let channel = Channel {
@@ -200,7 +200,7 @@ fn begun(h: Held, key: u8, next: u32) -> Held
         after_tic: false,
     };
     Held {
-        stands,
+        position,
         orders,
         channel,
     }

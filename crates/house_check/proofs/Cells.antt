@@ -16,7 +16,7 @@ use Rattle.cells.proofs.Laws.{length-bytesOf, getD-bytesOf}
 use Rattle.cells.proofs.Marks.{both-never}
 use Rattle.cells.proofs.Numbers.{Bytes}
 use Rattle.house_check.specs.Check.{feed, byteBits, bits, check}
-use Rattle.house_check.specs.Area.{Area, agrees, goodCells, sixteen, checked, laid, Burst, window}
+use Rattle.house_check.specs.Area.{Area, agrees, goodCells, sixteen, withCheck, cellsWithCheck, Burst, window}
 use Rattle.house_check.proofs.Window.{feed-lt}
 use Rattle.house_check.proofs.Bits.{bits-Bits}
 use Rattle.house_check.proofs.Remainder.{agrees-zero, zero-agrees}
@@ -122,24 +122,24 @@ check-bytes v (suc zero) = omega arith
 check-bytes v (suc (suc i)) = omega arith
 
 -- the check of bytes with their check agrees
-pub checked-agrees : (v : List ℕ) → agrees (length v) (checked v) ≡ true
-unfolding agrees checked
+pub checked-agrees : (v : List ℕ) → agrees (length v) (withCheck v) ≡ true
+unfolding agrees withCheck
 checked-agrees v =
     eq-eqb (check (take (length v) (v ++ (sixteen (check v))))) (getD (v ++ (sixteen (check v))) (length v) 0 * 256 + getD (v ++ (sixteen (check v))) (length v + 1) 0)
     (rw (take-append-seam, getD-append-seam, getD-append-add) (omega arith))
 
-pub length-laid : (v : List ℕ) → length (laid v) ≡ length v + 2
-unfolding laid checked cellsOf
+pub length-laid : (v : List ℕ) → length (cellsWithCheck v) ≡ length v + 2
+unfolding cellsWithCheck withCheck cellsOf
 length-laid v = length-map (v ++ (sixteen (check v))) cellOf ∙ length-append v (sixteen (check v))
 
 -- the bytes of what is laid
-pub laid-bytes : (v : List ℕ) → Bytes v → bytesOf (laid v) ≡ checked v
-unfolding laid checked
+pub laid-bytes : (v : List ℕ) → Bytes v → bytesOf (cellsWithCheck v) ≡ withCheck v
+unfolding cellsWithCheck withCheck
 laid-bytes v h = cells-bytes (v ++ sixteen (check v)) (append-bytes v (sixteen (check v)) h (check-bytes v))
 
 -- what is laid is a good area
-pub laid-good : (v : List ℕ) → Bytes v → goodCells (length v) (laid v) ≡ true
-unfolding goodCells laid checked
+pub laid-good : (v : List ℕ) → Bytes v → goodCells (length v) (cellsWithCheck v) ≡ true
+unfolding goodCells cellsWithCheck withCheck
 laid-good v h =
     let w : List ℕ = v ++ (sixteen (check v)) in
     let k : Bytes w = append-bytes v (sixteen (check v)) h (check-bytes v) in

@@ -5,8 +5,8 @@ use mathlib.Core.List.{List, _++_}
 use Prim.Native.Nat.{ℕ, _*_, _/_, _^_, _<_}
 use lib.Bits.{bitXor, xor-zero-l, xor-zero-r}
 use Rattle.cells.specs.Cells.{bytesOf}
-use Rattle.house_check.specs.Check.{step, feed, byteBits, bits, check}
-use Rattle.house_check.specs.Fold.{cellsIn, lowBytes, bytesIn, up, over, back, spread}
+use Rattle.house_check.specs.Check.{bitStep, feed, byteBits, bits, check}
+use Rattle.house_check.specs.Fold.{cellsIn, lowBytes, bytesIn, up, spill, back, spread}
 use Rattle.house_check.proofs.Window.{feed-append}
 use Rattle.house_check.proofs.Bits.{bits-append}
 use Rattle.house_check.proofs.Linear.{zipXor}
@@ -46,7 +46,7 @@ later-linear =
     (lines-after cellsIn (up 48) cells-lines (up-linear 48)) (lines-after cellsIn (λ x. x / 2 ^ 16) cells-lines (shr-linear 16)) cells-lines)
 
 alone-later : (x : ℕ) → x < 2 ^ 64 → alone x ≡ later x
-unfolding alone later five cellsIn check bits byteBits feed step
+unfolding alone later five cellsIn check bits byteBits feed bitStep
 alone-later x h = same-word alone later alone-linear later-linear refl x h
 
 five-xor : (a b c d w a′ b′ c′ d′ w′ : ℕ)
@@ -57,7 +57,7 @@ five-xor a b c d w a′ b′ c′ d′ w′ =
 
 -- zeros in front make no difference
 cells-before : (v : List ℕ) → check (cellsIn 0 ++ v) ≡ check v
-unfolding cellsIn check bits byteBits feed step
+unfolding cellsIn check bits byteBits feed bitStep
 cells-before v = refl
 
 -- bytes onward others go into the register that those leave
@@ -83,19 +83,19 @@ folds a b c d w h =
 -- ---- bytes into as many after them
 
 module _ (s : ℕ) where
-  over-linear : Linear (over s)
-  unfolding over
+  over-linear : Linear (spill s)
+  unfolding spill
   over-linear = xor-linear (λ x. x / 2 ^ (4 * s)) (λ x. x / 2 ^ (11 * s)) (shr-linear (4 * s)) (shr-linear (11 * s))
 
-  twice-linear : Linear (λ x. over s (over s x))
-  twice-linear = after (over s) (over s) over-linear over-linear
+  twice-linear : Linear (λ x. spill s (spill s x))
+  twice-linear = after (spill s) (spill s) over-linear over-linear
 
   back-linear : Linear (back s)
   unfolding back
   back-linear =
-      xor-linear (λ x. bitXor (bitXor x (over s x)) (over s (over s x))) (λ x. over s (over s x) / 2 ^ (4 * s))
-      (xor-linear (λ x. bitXor x (over s x)) (λ x. over s (over s x)) (xor-linear (λ x. x) (over s) same-linear over-linear) twice-linear)
-      (after (λ x. x / 2 ^ (4 * s)) (λ x. over s (over s x)) (shr-linear (4 * s)) twice-linear)
+      xor-linear (λ x. bitXor (bitXor x (spill s x)) (spill s (spill s x))) (λ x. spill s (spill s x) / 2 ^ (4 * s))
+      (xor-linear (λ x. bitXor x (spill s x)) (λ x. spill s (spill s x)) (xor-linear (λ x. x) (spill s) same-linear over-linear) twice-linear)
+      (after (λ x. x / 2 ^ (4 * s)) (λ x. spill s (spill s x)) (shr-linear (4 * s)) twice-linear)
 
   spread-linear : Linear (spread s)
   unfolding spread
@@ -122,12 +122,12 @@ unfolding onward
 onward-linear = check-linear (λ x. bytesIn (spread 4 x)) (lines-after bytesIn (spread 4) word-lines (spread-linear 4))
 
 whole-onward : (x : ℕ) → x < 2 ^ 64 → whole x ≡ onward x
-unfolding whole onward spread back over bytesIn lowBytes check bits byteBits feed step
+unfolding whole onward spread back spill bytesIn lowBytes check bits byteBits feed bitStep
 whole-onward x h = same-word whole onward whole-linear onward-linear refl x h
 
 -- zeros in front make no difference
 bytes-before : (v : List ℕ) → check (bytesIn 0 ++ v) ≡ check v
-unfolding bytesIn lowBytes check bits byteBits feed step
+unfolding bytesIn lowBytes check bits byteBits feed bitStep
 bytes-before v = refl
 
 two-xor : (x y x′ y′ : ℕ) → bytesIn (bitXor x x′) ++ bytesIn (bitXor y y′) ≡ zipXor (bytesIn x ++ bytesIn y) (bytesIn x′ ++ bytesIn y′)
@@ -158,7 +158,7 @@ half-linear =
     xor-linear (λ x. x) (λ x. spread 2 (x / 2 ^ 32)) same-linear (after (spread 2) (λ x. x / 2 ^ 32) (spread-linear 2) (shr-linear 32))
 
 pub spreads-half : (x : ℕ) → x < 2 ^ 64 → check (lowBytes (bitXor x (spread 2 (x / 2 ^ 32)))) ≡ check (bytesIn x)
-unfolding onwardHalf half spread back over bytesIn lowBytes check bits byteBits feed step
+unfolding onwardHalf half spread back spill bytesIn lowBytes check bits byteBits feed bitStep
 spreads-half x h =
     same-word onwardHalf (λ x. check (bytesIn x)) (check-linear (λ x. lowBytes (half x)) (lines-after lowBytes half low-lines half-linear))
     (check-linear bytesIn word-lines) refl x h

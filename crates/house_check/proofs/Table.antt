@@ -10,7 +10,7 @@ use borrow.Author.Tests.{eqb-true}
 use lib.ListN.{getD, replicate}
 use lib.Bits.{bitXor, xor-lt, xor-zero-l, xor-zero-r, xor-comm, xor-block, xor-shifted}
 use Rattle.cells.proofs.Numbers.{Bytes}
-use Rattle.house_check.specs.Check.{step, feed, byteBits, bits, check}
+use Rattle.house_check.specs.Check.{bitStep, feed, byteBits, bits, check}
 use Rattle.house_check.specs.Table.{remainders, tableStep, tableFeed}
 use Rattle.house_check.proofs.Window.{feed-lt}
 use Rattle.house_check.proofs.Bits.{bits-Bits}
@@ -21,7 +21,7 @@ use Rattle.house_check.proofs.Below.{below}
 -- ---- every entry
 
 pub entry : (k : ℕ) → k < 256 → getD remainders k 0 ≡ check (k ∷ [])
-unfolding remainders check bits byteBits feed step
+unfolding remainders check bits byteBits feed bitStep
 entry k h = eqb-true (getD remainders k 0) (check (k ∷ [])) (below 256 (λ k. eqb (getD remainders k 0) (check (k ∷ []))) refl k h)
 
 -- ---- a byte

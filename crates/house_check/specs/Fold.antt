@@ -26,11 +26,11 @@ up k x = x * 2 ^ k % 2 ^ 64
 
 -- a word taken 16 s bits on, by x^(16 s) = x^(12 s) + x^(5 s) + 1: of 64 bits with s = 4, of 32 with s = 2. What goes over at the top comes back
 -- the same way, three times at most.
-unfoldable pub over : ℕ → ℕ → ℕ
-over s x = bitXor (x / 2 ^ (4 * s)) (x / 2 ^ (11 * s))
+unfoldable pub spill : ℕ → ℕ → ℕ
+spill s x = bitXor (x / 2 ^ (4 * s)) (x / 2 ^ (11 * s))
 
 unfoldable pub back : ℕ → ℕ → ℕ
-back s x = bitXor (bitXor (bitXor x (over s x)) (over s (over s x))) (over s (over s x) / 2 ^ (4 * s))
+back s x = bitXor (bitXor (bitXor x (spill s x)) (spill s (spill s x))) (spill s (spill s x) / 2 ^ (4 * s))
 
 unfoldable pub spread : ℕ → ℕ → ℕ
 spread s x = bitXor (bitXor (up (12 * s) (back s x)) (up (5 * s) (back s x))) (back s x)

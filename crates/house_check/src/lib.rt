@@ -9,7 +9,7 @@ ghost use Rattle.cells.specs.Choice.{both};
 ghost use Rattle.cells.specs.Bytes.{part};
 ghost use Rattle.cells.specs.Cells.{bytesOf, allBytes};
 ghost use Rattle.house_check.specs.Area.{checkBytes, goodCells};
-ghost use Rattle.house_check.specs.Check.{step, feed, byteBits, bits, check};
+ghost use Rattle.house_check.specs.Check.{bitStep, feed, byteBits, bits, check};
 ghost use Rattle.house_check.specs.Table.{remainders, tableFeed};
 ghost use Rattle.house_check.specs.Fold.{cellsIn, rest, lowBytes, bytesIn, spread};
 
@@ -17,7 +17,7 @@ ghost use Rattle.house_check.specs.Fold.{cellsIn, rest, lowBytes, bytesI
 
 // A zero bit into the register.
 fn shift(r: u16) -> u16
-    ensures { λ x. ⌜ x ≡ step r 0 ⌝ }
+    ensures { λ x. ⌜ x ≡ bitStep r 0 ⌝ }
 {
     if r >= 0x8000 {
         return (r << 1) ^ 0x1021;

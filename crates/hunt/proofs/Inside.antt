@@ -14,9 +14,9 @@ use Rattle.cells.proofs.Marks.{length-marks}
 use Rattle.cells.proofs.Tests.{pick-all}
 use Rattle.hunt.specs.declared.{Found.Found, Spot.Spot, Next.Next}
 use Rattle.hunt.specs.declared.Found.the-variants.{At, Nothing}
-use Rattle.hunt.specs.declared.Spot.the-variants.{Zero, Marker}
-use Rattle.hunt.specs.declared.Next.the-variants.{Stands, NoMarker}
-use Rattle.hunt.specs.Hunt.{Whole, scan, hunt, spotFits, pastIndex, aheadOr, nextRecord, nextId, countFirst, spacedTo, spaceRecord}
+use Rattle.hunt.specs.declared.Spot.the-variants.{R0, Marker}
+use Rattle.hunt.specs.declared.Next.the-variants.{ComesTo, NoMarker}
+use Rattle.hunt.specs.Hunt.{WholeTrack, scan, hunt, spotFits, pastIndex, aheadOr, nextRecord, nextId, countFirst, spacedTo, spaceRecord}
 
 -- found, or come to, a record of the track
 abbrev pub FoundOn : List Bool → Found → Type 0
@@ -24,7 +24,7 @@ FoundOn m (At p) = getD m p false ≡ true
 FoundOn m Nothing = Unit {0}
 
 abbrev pub NextOn : List Bool → Next → Type 0
-NextOn m (Stands spot n) = spotFits m spot ≡ true
+NextOn m (ComesTo spot n) = spotFits m spot ≡ true
 NextOn m NoMarker = Unit {0}
 
 -- ---- a hunt ends at a marker
@@ -56,7 +56,7 @@ pub next-on : (m : List Bool) (p : ℕ) → NextOn m (nextRecord m p)
 unfolding nextRecord
 next-on m p = ahead-on m (hunt m p) _ (hunt-on m p) (past-on m (hunt m 7) (hunt-on m 7))
 
-pub zero-on : (m : List Bool) (n : ℕ) → NextOn m (Stands Zero n)
+pub zero-on : (m : List Bool) (n : ℕ) → NextOn m (ComesTo R0 n)
 unfolding spotFits
 zero-on m n = refl
 
@@ -73,19 +73,19 @@ inside m p e = go (decLt p (length m))
     go (yes h) = h
     go (no h) = absurd (true≢false (sym e ∙ List·getD-eq-default m false (omega arith)))
 
-module _ (t : List ℕ) (w : Whole t) where
+module _ (t : List ℕ) (w : WholeTrack t) where
   pub spot-in : (spot : Spot) → spotFits (marks t) spot ≡ true → countFirst spot ≤ trackCells
   unfolding spotFits countFirst
-  spot-in Zero e = omega arith
+  spot-in R0 e = omega arith
   spot-in (Marker p) e = omega (arith, inside (marks t) p e, length-marks t, w .long)
 
   pub next-in : (x : Next) → NextOn (marks t) x → spacedTo x ≤ trackCells
   unfolding spacedTo
-  next-in (Stands spot n) h = spot-in spot h
+  next-in (ComesTo spot n) h = spot-in spot h
   next-in NoMarker h = omega arith
 
 -- the place after Space Record
-pub space-in : (t : List ℕ) (p : ℕ) (b : Bool) → Whole t → spaceRecord (marks t) p b ≤ trackCells
+pub space-in : (t : List ℕ) (p : ℕ) (b : Bool) → WholeTrack t → spaceRecord (marks t) p b ≤ trackCells
 unfolding spaceRecord
 space-in t p true w = omega arith
 space-in t p false w = next-in t w (nextRecord (marks t) p) (next-on (marks t) p)

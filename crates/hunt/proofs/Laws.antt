@@ -17,9 +17,9 @@ use Rattle.cells.proofs.Marks.{length-marks, getD-marks, mark-here, mark-none, 
 use Rattle.cells.proofs.Tests.{first-of, second-of}
 use Rattle.hunt.specs.declared.{Found.Found, Next.Next}
 use Rattle.hunt.specs.declared.Found.the-variants.{At, Nothing}
-use Rattle.hunt.specs.declared.Spot.the-variants.{Zero, Marker}
-use Rattle.hunt.specs.declared.Next.the-variants.{Stands, NoMarker}
-use Rattle.hunt.specs.Hunt.{bare, scan, hunt, pastIndex, aheadOr, nextRecord, nextId, spacedTo, spaceRecord}
+use Rattle.hunt.specs.declared.Spot.the-variants.{R0, Marker}
+use Rattle.hunt.specs.declared.Next.the-variants.{ComesTo, NoMarker}
+use Rattle.hunt.specs.Hunt.{markerless, scan, hunt, pastIndex, aheadOr, nextRecord, nextId, spacedTo, spaceRecord}
 
 module _ (t : List ℕ) (p : ℕ) where
   -- by what stands in cell p
@@ -60,8 +60,8 @@ hunt-seven t p h = go (decLt p 7)
 -- ---- cells without a marker
 
 -- n such cells make no difference
-over : (t : List ℕ) (n p q : ℕ) → bare (take n (drop p t)) ≡ true → n + p ≡ q → q ≤ length t → hunt (marks t) p ≡ hunt (marks t) q
-unfolding bare
+over : (t : List ℕ) (n p q : ℕ) → markerless (take n (drop p t)) ≡ true → n + p ≡ q → q ≤ length t → hunt (marks t) p ≡ hunt (marks t) q
+unfolding markerless
 over t zero p q b e h = ap (hunt (marks t)) (sym (zero-add p) ∙ e)
 over t (suc n) p q b e h =
     let k : p < length t = omega arith in
@@ -71,7 +71,7 @@ over t (suc n) p q b e h =
     ∙ over t n (suc p) q (second-of (not (eqb x 512)) _ d) (omega arith) h
 
 -- a hunt from p may begin at q, if the cells between are such
-pub hunt-bare : (t : List ℕ) (p q : ℕ) (f : Found) → hunt (marks t) p ≡ f → p ≤ q → q ≤ length t → bare (take (q - p) (drop p t)) ≡ true → hunt (marks t) q ≡ f
+pub hunt-bare : (t : List ℕ) (p q : ℕ) (f : Found) → hunt (marks t) p ≡ f → p ≤ q → q ≤ length t → markerless (take (q - p) (drop p t)) ≡ true → hunt (marks t) q ≡ f
 hunt-bare t p q f e h k b = sym (over t (q - p) p q b (omega arith) k) ∙ e
 
 -- is a marker here: below 7 none, off the track none
@@ -85,7 +85,7 @@ mark-is t p h = ap (λ (b : Bool). both b (eqb (getD t p 0) 512)) (sym (le-leb 7
 -- ---- the next record, by what the hunt finds
 
 module _ (m : List Bool) (p : ℕ) where
-  pub next-ahead : (q : ℕ) → hunt m p ≡ At q → Stands (Marker q) 0 ≡ nextRecord m p
+  pub next-ahead : (q : ℕ) → hunt m p ≡ At q → ComesTo (Marker q) 0 ≡ nextRecord m p
   unfolding nextRecord aheadOr
   next-ahead q e = sym (ap (λ (f : Found). aheadOr f (pastIndex (hunt m 7))) e)
 
@@ -93,7 +93,7 @@ module _ (m : List Bool) (p : ℕ) where
   unfolding nextRecord aheadOr
   past f e g = sym (ap (λ (x : Found). aheadOr x (pastIndex (hunt m 7))) e ∙ ap pastIndex g)
 
-  pub next-past : (q : ℕ) → hunt m p ≡ Nothing → hunt m 7 ≡ At q → Stands (Marker q) 1 ≡ nextRecord m p
+  pub next-past : (q : ℕ) → hunt m p ≡ Nothing → hunt m 7 ≡ At q → ComesTo (Marker q) 1 ≡ nextRecord m p
   unfolding pastIndex
   next-past q e g = past (At q) e g
 
@@ -101,15 +101,15 @@ module _ (m : List Bool) (p : ℕ) where
   unfolding pastIndex
   next-none e g = past Nothing e g
 
-  pub id-low : p < 7 → Stands Zero 0 ≡ nextId m p
+  pub id-low : p < 7 → ComesTo R0 0 ≡ nextId m p
   unfolding nextId
-  id-low h = ap (λ (b : Bool). pick b (Stands Zero 0) (aheadOr (hunt m p) (Stands Zero 1))) (sym (lt-ltb p 7 h))
+  id-low h = ap (λ (b : Bool). pick b (ComesTo R0 0) (aheadOr (hunt m p) (ComesTo R0 1))) (sym (lt-ltb p 7 h))
 
-  pub id-high : (f : Found) → 7 ≤ p → hunt m p ≡ f → aheadOr f (Stands Zero 1) ≡ nextId m p
+  pub id-high : (f : Found) → 7 ≤ p → hunt m p ≡ f → aheadOr f (ComesTo R0 1) ≡ nextId m p
   unfolding nextId
   id-high f h e =
-      ap (λ (x : Found). aheadOr x (Stands Zero 1)) (sym e)
-      ∙ ap (λ (b : Bool). pick b (Stands Zero 0) (aheadOr (hunt m p) (Stands Zero 1))) (sym (le-ltb p 7 h))
+      ap (λ (x : Found). aheadOr x (ComesTo R0 1)) (sym e)
+      ∙ ap (λ (b : Bool). pick b (ComesTo R0 0) (aheadOr (hunt m p) (ComesTo R0 1))) (sym (le-ltb p 7 h))
 
   pub spaced-to : (b : Bool) (n : Next) → b ≡ false → nextRecord m p ≡ n → spacedTo n ≡ spaceRecord m p b
   unfolding spaceRecord

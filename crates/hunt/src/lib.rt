@@ -2,7 +2,7 @@
 ghost use mathlib.Core.Path.{_≡_};
 ghost use Prim.Native.Nat.{max, _≤_};
 ghost use Rattle.cells.specs.Cells.{marks, markAt};
-ghost use Rattle.hunt.specs.Hunt.{Whole, bare, hunt, countFirst, nextRecord, nextId, spaceRecord};
+ghost use Rattle.hunt.specs.Hunt.{WholeTrack, markerless, hunt, countFirst, nextRecord, nextId, spaceRecord};
 
 const TRACK_CELLS: u16 = 4096;
 
@@ -19,13 +19,13 @@ pub enum Found {
 
 // A record: R0, or the one whose marker is in a cell.
 pub enum Spot {
-    Zero,
+    R0,
     Marker(u16),
 }
 
 // Where the head comes to: a record, with the index points passed on the way, or past the index with no marker at all.
 pub enum Next {
-    Stands(Spot, u8),
+    ComesTo(Spot, u8),
     NoMarker,
 }
 
@@ -46,7 +46,7 @@ fn from_seven(place: u16) -> u16
 
 // Whether none of some cells holds a marker. There is no early end, so that the compiler can look at eight cells at once.
 fn is_bare(cells: &[u16]) -> bool
-    ensures { λ r. ⌜ r ≡ bare (now (cells .entry)) ⌝ }
+    ensures { λ r. ⌜ r ≡ markerless (now (cells .entry)) ⌝ }
 {
     let mut bare = true;
     let mut i = 0;
@@ -61,7 +61,7 @@ fn is_bare(cells: &[u16]) -> bool
 
 // The cell that a hunt may begin at instead: strides without a marker are passed over, since markers are few.
 fn pass_over(track: &[u16], from: u16) -> u16
-    requires { ⌜ Whole (now track) ⌝ }
+    requires { ⌜ WholeTrack (now track) ⌝ }
     ensures { λ r. ⌜ (from ≤ r) × (hunt (marks (now (track .entry))) r ≡ hunt (marks (now (track .entry))) from) ⌝ }
 {
     let mut i = from;
@@ -77,7 +77,7 @@ fn pass_over(track: &[u16], from: u16) -> u16
 
 // The first marker at or after a place.
 pub fn next_marker(track: &[u16], place: u16) -> Found
-    requires { ⌜ Whole (now track) ⌝ }
+    requires { ⌜ WholeTrack (now track) ⌝ }
     ensures { λ r. ⌜ r ≡ hunt (marks (now (track .entry))) place ⌝ }
 {
     let mut i = pass_over(track, from_seven(place));
@@ -92,29 +92,29 @@ pub fn next_marker(track: &[u16], place: u16) -> Found
 
 // The next record: the first marker at or after the place, else past the index.
 pub fn next_record(track: &[u16], place: u16) -> Next
-    requires { ⌜ Whole (now track) ⌝ }
+    requires { ⌜ WholeTrack (now track) ⌝ }
     ensures { λ r. ⌜ r ≡ nextRecord (marks (now (track .entry))) place ⌝ }
 {
     if let Found::At(p) = next_marker(track, place) {
-        return Next::Stands(Spot::Marker(p), 0);
+        return Next::ComesTo(Spot::Marker(p), 0);
     }
     match next_marker(track, 7) {
-        Found::At(p) => Next::Stands(Spot::Marker(p), 1),
+        Found::At(p) => Next::ComesTo(Spot::Marker(p), 1),
         Found::Nothing => Next::NoMarker,
     }
 }
 
 // The record that Search ID takes.
 pub fn next_id(track: &[u16], place: u16) -> Next
-    requires { ⌜ Whole (now track) ⌝ }
+    requires { ⌜ WholeTrack (now track) ⌝ }
     ensures { λ r. ⌜ r ≡ nextId (marks (now (track .entry))) place ⌝ }
 {
     if place < 7 {
-        return Next::Stands(Spot::Zero, 0);
+        return Next::ComesTo(Spot::R0, 0);
     }
     match next_marker(track, place) {
-        Found::At(p) => Next::Stands(Spot::Marker(p), 0),
-        Found::Nothing => Next::Stands(Spot::Zero, 1),
+        Found::At(p) => Next::ComesTo(Spot::Marker(p), 0),
+        Found::Nothing => Next::ComesTo(Spot::R0, 1),
     }
 }
 
@@ -123,21 +123,21 @@ pub fn count_first(spot: Spot) -> u32
     ensures { λ r. ⌜ r ≡ countFirst spot ⌝ }
 {
     match spot {
-        Spot::Zero => 7,
+        Spot::R0 => 7,
         Spot::Marker(p) => p as u32 + 1,
     }
 }
 
 // The place after Space Record.
 pub fn space_record(track: &[u16], place: u16, after_home: bool) -> u32
-    requires { ⌜ Whole (now track) ⌝ }
+    requires { ⌜ WholeTrack (now track) ⌝ }
     ensures { λ r. ⌜ r ≡ spaceRecord (marks (now (track .entry))) place «after_home» ⌝ }
 {
     if after_home {
         return 7;
     }
     match next_record(track, place) {
-        Next::Stands(spot, _) => count_first(spot),
+        Next::ComesTo(spot, _) => count_first(spot),
         Next::NoMarker => 7,
     }
 }

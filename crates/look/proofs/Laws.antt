@@ -17,7 +17,7 @@ use Rattle.hunt.specs.Hunt.{hunt}
 use Rattle.look.specs.declared.{Marked.Marked, Look.Look}
 use Rattle.look.specs.declared.Marked.the-variants.{NoTrack}
 use Rattle.look.specs.declared.Look.the-variants.{WrongCall, Readable, Unreadable, Absent, NotKnown}
-use Rattle.look.specs.Look.{markedBy, marked, markedNo, markerCall, looksAt, keyLook, dataLook, partLook, partOf, callFits, look, lookNo, leaves, looked, told, areaCall}
+use Rattle.look.specs.Look.{markedBy, marked, markedNo, markerCall, looksAt, keyLook, dataLook, partLook, partOf, callFits, look, lookNo, numbersLeft, looked, lookedOf, areaCall}
 
 -- ---- markers
 
@@ -89,15 +89,15 @@ module _ (t v : List ℕ) (c p : ℕ) (b : Bool) (e : b ≡ callFits (length t) 
       eqb-true (length v) 2
       (first-of (eqb (length v) 2) _ (second-of (eqb (length t) trackCells) _ (sym e ∙ g)))
 
-  pub call-told : b ≡ true → (q : Part) (x : Look) (r : ℕ) (w : List ℕ) → q ≡ partOf p → x ≡ partLook t c q → looked r w ≡ told x v
+  pub call-told : b ≡ true → (q : Part) (x : Look) (r : ℕ) (w : List ℕ) → q ≡ partOf p → x ≡ partLook t c q → looked r w ≡ lookedOf x v
       → looked r w ≡ areaCall t c p v
   unfolding areaCall look
   call-told g q x r w i j k =
-      k ∙ ap (λ (y : Look). told y v)
+      k ∙ ap (λ (y : Look). lookedOf y v)
       (j ∙ ap (partLook t c) i ∙ sym (first-picked (callFits (length t) c p (length v)) (partLook t c (partOf p)) WrongCall (sym e ∙ g)))
 
   pub call-wrong : b ≡ false → looked 0 v ≡ areaCall t c p v
-  unfolding areaCall look told lookNo leaves
+  unfolding areaCall look lookedOf lookNo numbersLeft
   call-wrong g =
-      ap (λ (y : Look). told y v)
+      ap (λ (y : Look). lookedOf y v)
       (sym (second-picked (callFits (length t) c p (length v)) (partLook t c (partOf p)) WrongCall (sym e ∙ g)))

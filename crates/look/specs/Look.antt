@@ -17,7 +17,7 @@ use Rattle.look.specs.declared.{Marked.Marked, Look.Look}
 
 -- what the hunt found on a whole track
 unfoldable pub markedBy : Found → Marked
-markedBy (Found.At p) = Marked.Holds p
+markedBy (Found.At p) = Marked.Cell p
 markedBy Found.Nothing = Marked.NoMarker
 
 -- the first marker at or after a place
@@ -26,7 +26,7 @@ marked t place = pick (eqb (length t) trackCells) (markedBy (hunt (marks t) plac
 
 -- the number of each answer: the marker's cell, or one that is no cell
 unfoldable pub markedNo : Marked → ℕ
-markedNo (Marked.Holds p) = p
+markedNo (Marked.Cell p) = p
 markedNo Marked.NoMarker = trackCells
 markedNo Marked.NoTrack = 65535
 
@@ -77,12 +77,12 @@ unfoldable pub lies : Area → List ℕ
 lies a = a .first ∷ a .bytes ∷ []
 
 -- what is left in the two numbers
-unfoldable pub leaves : Look → List ℕ → List ℕ
-leaves (Look.Readable a) v = lies a
-leaves (Look.Unreadable a) v = lies a
-leaves Look.WrongCall v = v
-leaves Look.Absent v = v
-leaves Look.NotKnown v = v
+unfoldable pub numbersLeft : Look → List ℕ → List ℕ
+numbersLeft (Look.Readable a) v = lies a
+numbersLeft (Look.Unreadable a) v = lies a
+numbersLeft Look.WrongCall v = v
+numbersLeft Look.Absent v = v
+numbersLeft Look.NotKnown v = v
 
 pub record Looked : Type 0 where
   pub answer : ℕ
@@ -91,8 +91,8 @@ pub record Looked : Type 0 where
 abbrev pub looked : ℕ → List ℕ → Looked
 looked a v = record { answer = a; area = v }
 
-unfoldable pub told : Look → List ℕ → Looked
-told x v = looked (lookNo x) (leaves x v)
+unfoldable pub lookedOf : Look → List ℕ → Looked
+lookedOf x v = looked (lookNo x) (numbersLeft x v)
 
 unfoldable pub areaCall : List ℕ → ℕ → ℕ → List ℕ → Looked
-areaCall t c p v = told (look t c p v) v
+areaCall t c p v = lookedOf (look t c p v) v

@@ -6,11 +6,11 @@ use hunt::Found;
 ghost use mathlib.Core.Path.{_≡_};
 ghost use lib.ListN.{length};
 ghost use Rattle.areas.specs.Areas.{readCount};
-ghost use Rattle.look.specs.Look.{marked, markedNo, markerCall, looksAt, keyLook, dataLook, partLook, partOf, callFits, lies, looked, told, areaCall};
+ghost use Rattle.look.specs.Look.{marked, markedNo, markerCall, looksAt, keyLook, dataLook, partLook, partOf, callFits, lies, looked, lookedOf, areaCall};
 
 // The cell that holds a marker, that there is none from a place on, or that these cells are no track.
 pub enum Marked {
-    Holds(u16),
+    Cell(u16),
     NoMarker,
     NoTrack,
 }
@@ -32,7 +32,7 @@ fn next_marked(track: &[u16], place: u16) -> Marked
         return Marked::NoTrack;
     }
     match hunt::next_marker(track, place) {
-        Found::At(p) => Marked::Holds(p),
+        Found::At(p) => Marked::Cell(p),
         Found::Nothing => Marked::NoMarker,
     }
 }
@@ -41,7 +41,7 @@ fn marked_number(m: Marked) -> u16
     ensures { λ r. ⌜ r ≡ markedNo m ⌝ }
 {
     match m {
-        Marked::Holds(p) => p,
+        Marked::Cell(p) => p,
         Marked::NoMarker => 4096,
         Marked::NoTrack => 65535,
     }
@@ -133,7 +133,7 @@ fn put(area: &mut [u32], a: Area)
 // The number of what was found; an area is written.
 fn tell(area: &mut [u32], found: Look) -> u8
     requires { ⌜ length (now area) ≡ 2 ⌝ }
-    ensures { λ r. ⌜ looked r (now (area .exit)) ≡ told found (now (area .entry)) ⌝ }
+    ensures { λ r. ⌜ looked r (now (area .exit)) ≡ lookedOf found (now (area .entry)) ⌝ }
 {
     match found {
         Look::WrongCall => 0,

@@ -20,8 +20,8 @@ legal m = both (eqb (m / 32 % 2) 0) (eqb (m % 8) 0)
 
 -- whether writing is barred with bits 0 and 1 at 00, 01, 10, 11, in that order
 unfoldable pub writesBarred : Writing → List Bool
-writesBarred Writing.HomeOrZero = true ∷ true ∷ true ∷ false ∷ []
-writesBarred Writing.Record = false ∷ true ∷ true ∷ false ∷ []
+writesBarred Writing.HomeOrR0 = true ∷ true ∷ true ∷ false ∷ []
+writesBarred Writing.CountKeyData = false ∷ true ∷ true ∷ false ∷ []
 writesBarred Writing.Update = false ∷ true ∷ false ∷ false ∷ []
 
 -- whether seeking is barred with bits 3 and 4 at 00, 01, 10, 11, in that order

@@ -4,8 +4,8 @@ ghost use Rattle.mask.specs.Mask.{legal, barsWrite, barsSeek};
 
 // The writes that a mask tells apart: 19 and 15; 1D; 05 and 0D.
 pub enum Writing {
-    HomeOrZero,
-    Record,
+    HomeOrR0,
+    CountKeyData,
     Update,
 }
 
@@ -29,8 +29,8 @@ pub fn bars_write(mask: u8, write: Writing) -> bool
 {
     let bits = mask / 64;
     match write {
-        Writing::HomeOrZero => bits != 3,
-        Writing::Record => bits % 3 != 0,
+        Writing::HomeOrR0 => bits != 3,
+        Writing::CountKeyData => bits % 3 != 0,
         Writing::Update => bits == 1,
     }
 }

@@ -19,7 +19,7 @@ use Rattle.cells.proofs.Tests.{second-of}
 use Rattle.cells.proofs.Laws.{length-part, overlay-before, overlay-behind}
 use Rattle.pack.specs.declared.{Cylinder.Cylinder, Head.Head, Shape.Shape}
 use Rattle.pack.specs.Shapes.{mostCylinders, mostHeads, from1To, packFits}
-use Rattle.pack.specs.Tracks.{Whole, On, trackNo, startOf, trackAt, withTrack}
+use Rattle.pack.specs.Tracks.{WholePack, On, trackNo, startOf, trackAt, withTrack}
 
 -- ---- where a track lies
 
@@ -34,7 +34,7 @@ module _ (g : Shape) (c : Cylinder) (h : Head) (on : On g c h) where
   pub track-below : trackNo g c h < g .cylinders * g .heads
   track-below = row (c .0) (h .0) (g .cylinders) (g .heads) (on .cylinder) (on .head)
 
-  pub start-inside : (cells : List ℕ) → Whole g cells → startOf g c h + trackCells ≤ length cells
+  pub start-inside : (cells : List ℕ) → WholePack g cells → startOf g c h + trackCells ≤ length cells
   unfolding startOf
   start-inside cells w = omega (arith, track-below, w .count)
 

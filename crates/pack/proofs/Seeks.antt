@@ -8,19 +8,19 @@ use Rattle.cells.specs.Choice.{pick, both}
 use Rattle.cells.proofs.Tests.{first-of, second-of}
 use Rattle.rows.specs.declared.Row.the-variants.{BadSeek}
 use Rattle.pack.specs.declared.{Cylinder.Cylinder, Head.Head, Shape.Shape, Sought.Sought}
-use Rattle.pack.specs.declared.Sought.the-variants.{Stands, Fails}
+use Rattle.pack.specs.declared.Sought.the-variants.{To, Fails}
 use Rattle.pack.specs.Shapes.{cylinderOn, headOn, seekTo, seekHead}
 use Rattle.pack.specs.Tracks.{On}
 
 abbrev pub SoughtOn : Shape → Sought → Type 0
-SoughtOn g (Stands c h) = On g c h
+SoughtOn g (To c h) = On g c h
 SoughtOn g (Fails row) = Unit {0}
 
 pub seek-to-on : (g : Shape) (bb : ℕ) (c : Cylinder) (h : Head) → SoughtOn g (seekTo g bb c h)
 unfolding seekTo
 seek-to-on g bb c h = go (both (eqb bb 0) (both (cylinderOn g c) (headOn g h))) refl
   where
-    go : (b : Bool) → both (eqb bb 0) (both (cylinderOn g c) (headOn g h)) ≡ b → SoughtOn g (pick b (Stands c h) (Fails BadSeek))
+    go : (b : Bool) → both (eqb bb 0) (both (cylinderOn g c) (headOn g h)) ≡ b → SoughtOn g (pick b (To c h) (Fails BadSeek))
     go true e =
         let f = second-of (eqb bb 0) _ e in
         record { cylinder = ltb-true _ _ (first-of (cylinderOn g c) _ f); head = ltb-true _ _ (second-of (cylinderOn g c) _ f) }
@@ -30,6 +30,6 @@ pub seek-head-on : (g : Shape) (c : Cylinder) → c .0 < g .cylinders → (h : H
 unfolding seekHead
 seek-head-on g c on h = go (headOn g h) refl
   where
-    go : (b : Bool) → headOn g h ≡ b → SoughtOn g (pick b (Stands c h) (Fails BadSeek))
+    go : (b : Bool) → headOn g h ≡ b → SoughtOn g (pick b (To c h) (Fails BadSeek))
     go true e = record { cylinder = on; head = ltb-true _ _ e }
     go false e = tt

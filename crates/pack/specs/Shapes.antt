@@ -39,8 +39,8 @@ headOn g h = ltb (h .0) (g .heads)
 
 -- Seek and Seek Cylinder: BB = 0, CC and HH on the pack
 unfoldable pub seekTo : Shape → ℕ → Cylinder → Head → Sought
-seekTo g bb c h = pick (both (eqb bb 0) (both (cylinderOn g c) (headOn g h))) (Sought.Stands c h) (Sought.Fails Row.BadSeek)
+seekTo g bb c h = pick (both (eqb bb 0) (both (cylinderOn g c) (headOn g h))) (Sought.To c h) (Sought.Fails Row.BadSeek)
 
 -- Seek Head tests and uses HH only
 unfoldable pub seekHead : Shape → Cylinder → Head → Sought
-seekHead g c h = pick (headOn g h) (Sought.Stands c h) (Sought.Fails Row.BadSeek)
+seekHead g c h = pick (headOn g h) (Sought.To c h) (Sought.Fails Row.BadSeek)

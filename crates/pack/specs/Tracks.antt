@@ -10,7 +10,7 @@ use Rattle.pack.specs.declared.{Cylinder.Cylinder, Head.Head, Shape.Shap
 use Rattle.pack.specs.Shapes.{mostCylinders, mostHeads}
 
 -- a pack of a right size with the cells that its tracks have
-pub record Whole (g : Shape) (cells : List ℕ) : Type 0 where
+pub record WholePack (g : Shape) (cells : List ℕ) : Type 0 where
   pub cylinders : g .cylinders ≤ mostCylinders
   pub heads : g .heads ≤ mostHeads
   pub count : length cells ≡ g .cylinders * g .heads * trackCells

@@ -18,7 +18,7 @@ pub struct Shape {
 
 // What a seek's address comes to: where the head then stands, or the Unit Check row.
 pub enum Sought {
-    Stands(Cylinder, Head),
+    To(Cylinder, Head),
     Fails(Row),
 }
 
@@ -57,7 +57,7 @@ pub fn seek_to(g: Shape, bb: u16, c: Cylinder, h: Head) -> Sought
     if g.heads <= h.0 as u32 {
         return Sought::Fails(Row::BadSeek);
     }
-    Sought::Stands(c, h)
+    Sought::To(c, h)
 }
 
 // Where Seek Head goes, from a cylinder.
@@ -67,7 +67,7 @@ pub fn seek_head(g: Shape, c: Cylinder, h: Head) -> Sought
     if g.heads <= h.0 as u32 {
         return Sought::Fails(Row::BadSeek);
     }
-    Sought::Stands(c, h)
+    Sought::To(c, h)
 }
 
 // The first cell of a track.

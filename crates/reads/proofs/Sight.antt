@@ -14,16 +14,16 @@ use Rattle.areas.specs.Areas.{countsAt}
 use Rattle.areas.proofs.Laws.{counts-are}
 use Rattle.pack.specs.declared.{Head.Head}
 use Rattle.command.specs.declared.Got.the-variants.{Sees}
-use Rattle.command.specs.Command.{Seen, idOf, sent, gets, saw}
+use Rattle.command.specs.Command.{Seen, idOf, countMoved, gets, seenOf}
 use Rattle.command.proofs.Seen.{count-lies, record-counts, record-key, record-body, key-lies, body-lies, home-seen, home-lies}
 use Rattle.table.specs.declared.{Names.Names}
-use Rattle.turn.specs.declared.{Moving.Moving}
-use Rattle.turn.specs.Turn.{Tracks, given, movingOf, filled, toldOf}
+use Rattle.turn.specs.declared.{Transfer.Transfer}
+use Rattle.turn.specs.Turn.{Tracks, given, transferOf, filled, reportOf}
 use Rattle.command.specs.declared.{Job.Job}
-use Rattle.command.specs.Command.{areasOf, areasRead, sight, Sighted, endsAt, ends, endingOf, offered, gives}
-use Rattle.ending.specs.Ending.{endedAt}
+use Rattle.command.specs.Command.{areasOf, areasRead, sight, Sighted, endTurnAt, endTurn, endingOf, offered, readTurn}
+use Rattle.ending.specs.Ending.{reportAt}
 use Rattle.reads.specs.declared.{Rest.Rest}
-use Rattle.reads.specs.Inside.{readTold, LieIf, LieAll, Puts, start, countGiven, keyGiven, bodyGiven, bytesGiven, manyGiven}
+use Rattle.reads.specs.Inside.{readReport, LieIf, LieAll, Puts, start, countGiven, keyGiven, bodyGiven, bytesGiven, manyGiven}
 use Rattle.reads.proofs.Laws.{long, all-put, none-put}
 
 -- ---- a count's 8 bytes are those of its cells but the flag's
@@ -65,10 +65,10 @@ module _ (t : List ℕ) (c : ℕ) (h : c + 11 ≤ length t) where
       (cell-next 7 1 (omega arith) ∙ ap (λ (l : List ℕ). b 7 ∷ l)
       (cell-next 8 0 (omega arith))))))))
 
-  sent-at : sent (countsAt t c) ≡ bytesOf (part t (c + 1) 8)
-  unfolding sent idOf
+  sent-at : countMoved (countsAt t c) ≡ bytesOf (part t (c + 1) 8)
+  unfolding countMoved idOf
   sent-at =
-      ap sent (sym (counts-are t c (byteOf (getD t c 0)) (pair 1) (pair 3) (b 5) (b 6) (pair 7) refl (pair-is 1) (pair-is 3) refl refl (pair-is 7)))
+      ap countMoved (sym (counts-are t c (byteOf (getD t c 0)) (pair 1) (pair 3) (b 5) (b 6) (pair 7) refl (pair-is 1) (pair-is 3) refl refl (pair-is 7)))
       ∙ (λ i. high 1 i ∷ low 1 i ∷ high 3 i ∷ low 3 i ∷ b 5 ∷ b 6 ∷ high 7 i ∷ low 7 i ∷ [])
       ∙ sym cells-sent
 
@@ -79,7 +79,7 @@ module _ (tr : Tracks) (h : Head) (c : ℕ) (counted key body : Bool) (n : Count
   t = tr h
 
   abbrev x : Seen
-  x = saw tr (areasOf (Names.Count key body) tr h c)
+  x = seenOf tr (areasOf (Names.Count key body) tr h c)
 
   -- a part that is not named has no bytes
   picked : (b : Bool) (first m : ℕ) → pick b (bytesOf (part t first m)) [] ≡ bytesOf (part t first (pick b m 0))
@@ -91,10 +91,10 @@ module _ (tr : Tracks) (h : Head) (c : ℕ) (counted key body : Bool) (n : Count
   lie-if true first m h = record { ends = h refl }
   lie-if false first m h = record { ends = λ k. absurd (omega arith) }
 
-  count-is : pick counted (sent n) [] ≡ countGiven t counted c
+  count-is : pick counted (countMoved n) [] ≡ countGiven t counted c
   count-is =
       ap (λ (y : List ℕ). pick counted y [])
-      (ap sent (record-counts tr h c key body n e) ∙ sent-at t c (count-lies tr h c key body n e))
+      (ap countMoved (record-counts tr h c key body n e) ∙ sent-at t c (count-lies tr h c key body n e))
       ∙ picked counted (c + 1) 8
 
   twice : (b : Bool) (v : List ℕ) → pick b (pick b v []) [] ≡ pick b v []
@@ -124,7 +124,7 @@ module _ (t : Tracks) (j : Job) (s : Sighted t j) where
   sees-by m p = ap (λ (x : Names). gets x t (j .task .head) (j .task .place)) (sym p) ∙ s .sees
 
   gives-at : (m : Names) → gets m t (j .task .head) (j .task .place) ≡ Sees (j .counts) → (counted : Bool)
-      → offered m counted (j .counts) (saw t (areasOf m t (j .task .head) (j .task .place))) ≡ bytesGiven on counted m (j .task .place) (j .counts)
+      → offered m counted (j .counts) (seenOf t (areasOf m t (j .task .head) (j .task .place))) ≡ bytesGiven on counted m (j .task .place) (j .counts)
   unfolding offered bytesGiven
   gives-at Names.Nothing e counted = refl
   gives-at Names.HomeAddress e counted = home-seen t (j .task .head) (j .task .place)
@@ -135,7 +135,7 @@ module _ (t : Tracks) (j : Job) (s : Sighted t j) where
       ++ (key-is t (j .task .head) c counted key body n e i ++ body-is t (j .task .head) c counted key body n e i))
 
   pub gives-these : (counted : Bool)
-      → offered (j .rule .names) counted (j .counts) (saw t (areasRead t j)) ≡ bytesGiven on counted (j .rule .names) (j .task .place) (j .counts)
+      → offered (j .rule .names) counted (j .counts) (seenOf t (areasRead t j)) ≡ bytesGiven on counted (j .rule .names) (j .task .place) (j .counts)
   unfolding areasRead
   gives-these = gives-at (j .rule .names) (s .sees)
 
@@ -148,19 +148,19 @@ module _ (t : Tracks) (j : Job) (s : Sighted t j) where
 
   -- these bytes put into lent ones are those that the read gives
   module _ (counted : Bool) (v : List ℕ) where
-    given-are : given (gives counted (sight t j v) .moves) ≡ bytesGiven on counted (j .rule .names) (j .task .place) (j .counts)
-    unfolding given gives ends endsAt sight
+    given-are : given (readTurn counted (sight t j v) .moves) ≡ bytesGiven on counted (j .rule .names) (j .task .place) (j .counts)
+    unfolding given readTurn endTurn endTurnAt sight
     given-are = gives-these counted
 
     module _ (m : Names) (p : j .rule .names ≡ m) (l : List ℕ) (from : ℕ) where
-      filled-by : filled l from (bytesGiven on counted m (j .task .place) (j .counts)) ≡ filled l from (given (gives counted (sight t j v) .moves))
+      filled-by : filled l from (bytesGiven on counted m (j .task .place) (j .counts)) ≡ filled l from (given (readTurn counted (sight t j v) .moves))
       filled-by = ap (λ (x : Names). filled l from (bytesGiven on counted x (j .task .place) (j .counts))) (sym p) ∙ ap (filled l from) (sym given-are)
 
       pub puts-given : (out : List ℕ) (r x : Rest) → r ≡ start from → Puts l r (bytesGiven on counted m (j .task .place) (j .counts)) out x
-          → out ≡ filled l from (given (gives counted (sight t j v) .moves))
+          → out ≡ filled l from (given (readTurn counted (sight t j v) .moves))
       puts-given out r x e q = all-put l from _ out r x e q ∙ filled-by
 
-    pub gives-none : j .rule .names ≡ Names.Nothing → (l : List ℕ) (from : ℕ) → l ≡ filled l from (given (gives counted (sight t j v) .moves))
+    pub gives-none : j .rule .names ≡ Names.Nothing → (l : List ℕ) (from : ℕ) → l ≡ filled l from (given (readTurn counted (sight t j v) .moves))
     unfolding bytesGiven
     gives-none p l from = none-put l from ∙ filled-by Names.Nothing p l from
 
@@ -184,7 +184,7 @@ module _ (t : Tracks) (j : Job) (s : Sighted t j) (counted : Bool) where
   many-are Names.HomeAddress p = long _ 0 5 (home-on t j s p)
   many-are (Names.Count key body) p = record-many _ _ counted (j .counts) key body (record-on t j s counted key body p)
 
-  pub told-are : (v : List ℕ) → readTold counted j ≡ toldOf (gives counted (sight t j v))
-  unfolding readTold toldOf movingOf gives ends endsAt sight endedAt
+  pub told-are : (v : List ℕ) → readReport counted j ≡ reportOf (readTurn counted (sight t j v))
+  unfolding readReport reportOf transferOf readTurn endTurn endTurnAt sight reportAt
   told-are v =
-      ap (λ (m : ℕ). endedAt j (j .task) (endingOf j) (Moving.Gives m) false) (sym (ap length (gives-these t j s counted) ∙ many-are (j .rule .names) refl))
+      ap (λ (m : ℕ). reportAt j (j .task) (endingOf j) (Transfer.Gives m) false) (sym (ap length (gives-these t j s counted) ∙ many-are (j .rule .names) refl))

@@ -12,10 +12,10 @@ use Rattle.areas.specs.Areas.{homeBytes, keyArea, dataArea}
 use Rattle.recording.specs.Recording.{countSent}
 use Rattle.table.specs.declared.{Names.Names}
 use Rattle.reads.specs.declared.{Rest.Rest}
-use Rattle.turn.specs.declared.{Moving.Moving, Told.Told}
+use Rattle.turn.specs.declared.{Transfer.Transfer, Report.Report}
 use Rattle.command.specs.declared.{Job.Job}
 use Rattle.command.specs.Command.{endingOf}
-use Rattle.ending.specs.Ending.{endedAt}
+use Rattle.ending.specs.Ending.{reportAt}
 
 -- so many bytes from a cell on lie on the track, if there are any
 pub record LieIf (t : List ℕ) (first n : ℕ) : Type 0 where
@@ -70,5 +70,5 @@ pub record LieAll (t : List ℕ) (counted k d : Bool) (c : ℕ) (n : Counts) : T
   pub body : LieIf t (dataArea c n .first) (pick d (n .dl) 0)
 
 -- what a read tells, all its areas being readable
-unfoldable pub readTold : Bool → Job → Told
-readTold counted j = endedAt j (j .task) (endingOf j) (Moving.Gives (manyGiven counted (j .rule .names) (j .counts))) false
+unfoldable pub readReport : Bool → Job → Report
+readReport counted j = reportAt j (j .task) (endingOf j) (Transfer.Gives (manyGiven counted (j .rule .names) (j .counts))) false

@@ -2,8 +2,8 @@
 use areas::Counts;
 use command::Job;
 use table::Names;
-use turn::Moving;
-use turn::Told;
+use turn::Report;
+use turn::Transfer;
 ghost use mathlib.Core.Path.{_≡_};
 ghost use mathlib.Core.List.{List};
 ghost use Prim.Native.Nat.{ℕ, _+_, _≤_};
@@ -12,8 +12,8 @@ ghost use Rattle.cells.specs.Choice.{pick};
 ghost use Rattle.cells.specs.Bytes.{overlay, part};
 ghost use Rattle.cells.specs.Cells.{bytesOf};
 ghost use Rattle.turn.specs.Turn.{alone, filled, given};
-ghost use Rattle.command.specs.Command.{Sighted, sight, gives};
-ghost use Rattle.reads.specs.Inside.{LieIf, LieAll, Puts, recordGiven, manyGiven, readTold};
+ghost use Rattle.command.specs.Command.{Sighted, sight, readTurn};
+ghost use Rattle.reads.specs.Inside.{LieIf, LieAll, Puts, recordGiven, manyGiven, readReport};
 
 const HOME_BYTES: u16 = 5;
 
@@ -92,7 +92,7 @@ fn put_record(
 // The bytes that a read gives, from one on, as many as find room.
 pub fn give(counted: bool, j: Job, track: &[u16], from: u32, into: &mut [u8])
     requires { ⌜ Sighted (alone (now track)) j ⌝ }
-    ensures { λ _. ⌜ ((v : List ℕ) → now (into .exit) ≡ filled (now (into .entry)) from (given (gives counted (sight (alone (now (track .entry))) j v) .moves))) ⌝ }
+    ensures { λ _. ⌜ ((v : List ℕ) → now (into .exit) ≡ filled (now (into .entry)) from (given (readTurn counted (sight (alone (now (track .entry))) j v) .moves))) ⌝ }
 {
     let r = Rest {
         at: 0,
@@ -127,12 +127,12 @@ fn many_given(counted: bool, names: Names, n: Counts) -> u32
 }
 
 // A read that has read all that it names.
-pub fn read(counted: bool, j: Job) -> Told
-    ensures { λ r. ⌜ r ≡ readTold counted j ⌝ }
+pub fn read(counted: bool, j: Job) -> Report
+    ensures { λ r. ⌜ r ≡ readReport counted j ⌝ }
 {
     let end = ending::ending_of(j);
     let rule = j.rule;
     let names = rule.names;
     let n = many_given(counted, names, j.counts);
-    ending::ended(j, end, Moving::Gives(n), false)
+    ending::ended(j, end, Transfer::Gives(n), false)
 }

@@ -11,7 +11,7 @@ use Rattle.cells.specs.Cells.{cellOf, bytesOf, cellsOf}
 use Rattle.cells.proofs.Laws.{overlay-none, overlay-snoc, overlay-append, part-overlay, length-padded, padded-snoc}
 use Rattle.cells.proofs.Numbers.{Bytes}
 use Rattle.house_check.specs.Check.{check}
-use Rattle.house_check.specs.Area.{sixteen, checked, laid}
+use Rattle.house_check.specs.Area.{sixteen, withCheck, cellsWithCheck}
 use Rattle.house_check.proofs.Cells.{cells-bytes}
 use Rattle.recording.specs.Recording.{areaWritten, countWritten, wiped}
 
@@ -92,8 +92,8 @@ check-put t p x h = rw add-one (sets-eq ((256 + x / 256) ∷ (256 + x % 256) ∷
 -- bytes recorded and then their check: the area is laid
 pub check-behind : (t : List ℕ) (first : ℕ) (w : List ℕ) (n : ℕ) → length w ≡ n → Bytes w → first + n + 2 ≤ length t
     → overlay (overlay t first (cellsOf w)) (first + n) (cellsOf (sixteen (check (bytesOf (part (overlay t first (cellsOf w)) first n)))))
-    ≡ overlay t first (laid w)
-unfolding laid checked cellsOf
+    ≡ overlay t first (cellsWithCheck w)
+unfolding cellsWithCheck withCheck cellsOf
 check-behind t first w n e b h =
     let l : length (cellsOf w) ≡ n = length-cellsOf w ∙ e in
     let back : bytesOf (part (overlay t first (cellsOf w)) first n) ≡ w =
@@ -115,7 +115,7 @@ padded-bytes (suc n) (b ∷ v) h (suc i) = padded-bytes n v (λ j. h (suc j)) i
 module _ (t : List ℕ) (first : ℕ) (v : List ℕ) (bytes : Bytes v) where
   -- the cells of n bytes w, then their check
   then-check : (w t₁ t₂ : List ℕ) (n : ℕ) → length w ≡ n → Bytes w → first + n + 2 ≤ length t → t₁ ≡ overlay t first (cellsOf w)
-      → t₂ ≡ overlay t₁ (first + n) (cellsOf (sixteen (check (bytesOf (part t₁ first n))))) → t₂ ≡ overlay t first (laid w)
+      → t₂ ≡ overlay t₁ (first + n) (cellsOf (sixteen (check (bytesOf (part t₁ first n))))) → t₂ ≡ overlay t first (cellsWithCheck w)
   then-check w t₁ t₂ n l b h e f =
       f ∙ ap (λ (x : List ℕ). overlay x (first + n) (cellsOf (sixteen (check (bytesOf (part x first n)))))) e ∙ check-behind t first w n l b h
 

@@ -5,11 +5,11 @@ use mathlib.Core.List.{List, _∷_, _++_}
 use lib.ListN.{length, take, replicate}
 use Rattle.cells.specs.Bytes.{overlay, padded}
 use Rattle.cells.specs.Cells.{gap}
-use Rattle.house_check.specs.Area.{checkBytes, laid}
+use Rattle.house_check.specs.Area.{checkBytes, cellsWithCheck}
 
 -- an area of n bytes recorded from a cell on, of bytes that came from storage
 unfoldable pub areaWritten : List ℕ → ℕ → List ℕ → ℕ → List ℕ
-areaWritten t first v n = overlay t first (laid (padded n v))
+areaWritten t first v n = overlay t first (cellsWithCheck (padded n v))
 
 -- bytes of a count that come from storage: CC (2), HH (2), R, KL, DL (2)
 abbrev pub countSent : ℕ
@@ -17,7 +17,7 @@ countSent = 8
 
 -- a count area recorded: the flag is the box's, the rest is sent
 unfoldable pub countWritten : List ℕ → ℕ → ℕ → List ℕ → List ℕ
-countWritten t c flag v = overlay t c (laid (flag ∷ padded countSent v))
+countWritten t c flag v = overlay t c (cellsWithCheck (flag ∷ padded countSent v))
 
 -- gaps from a cell to the end
 unfoldable pub wiped : List ℕ → ℕ → List ℕ

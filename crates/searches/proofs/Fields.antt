@@ -16,7 +16,7 @@ use Rattle.compare.specs.declared.{Compared.Compared}
 use Rattle.compare.specs.Compare.{compared, comparedBytes, There}
 use Rattle.pack.specs.declared.{Head.Head}
 use Rattle.command.specs.declared.Got.the-variants.{Sees}
-use Rattle.command.specs.Command.{Seen, idOf, gets, saw}
+use Rattle.command.specs.Command.{Seen, idOf, gets, seenOf}
 use Rattle.command.proofs.Seen.{area-bytes, count-lies, record-counts, key-lies, record-key, home-seen, home-lies}
 use Rattle.table.specs.declared.{Names.Names}
 use Rattle.turn.specs.Turn.{alone}
@@ -66,10 +66,10 @@ module _ (t : List ℕ) (h : Head) (c : ℕ) (body : Bool) (n : Counts) (e : get
 
 -- .. by what the search names
 module _ (t : List ℕ) (h : Head) (c : ℕ) (n : Counts) where
-  abbrev seenOf : Names → Seen
-  seenOf m = saw (alone t) (areasOf m (alone t) h c)
+  abbrev seenHere : Names → Seen
+  seenHere m = seenOf (alone t) (areasOf m (alone t) h c)
 
-  home-field : gets Names.HomeAddress (alone t) h c ≡ Sees n → Lying t (fieldOf Names.HomeAddress n (seenOf Names.HomeAddress)) 1 4
+  home-field : gets Names.HomeAddress (alone t) h c ≡ Sees n → Lying t (fieldOf Names.HomeAddress n (seenHere Names.HomeAddress)) 1 4
   unfolding fieldOf
   home-field e = record {
     there = ap (drop 1) (home-seen (alone t) h c) ∙ home-tail t;
@@ -77,12 +77,12 @@ module _ (t : List ℕ) (h : Head) (c : ℕ) (n : Counts) where
   }
 
   id-field : (body : Bool) → gets (Names.Count false body) (alone t) h c ≡ Sees n
-      → Lying t (fieldOf (Names.Count false body) n (seenOf (Names.Count false body))) (c + 1) 5
+      → Lying t (fieldOf (Names.Count false body) n (seenHere (Names.Count false body))) (c + 1) 5
   unfolding fieldOf
   id-field body e = record { there = id-there t h c body n e; ends = omega (arith, count-lies (alone t) h c false body n e) }
 
   key-field : (body : Bool) → gets (Names.Count true body) (alone t) h c ≡ Sees n
-      → Lying t (fieldOf (Names.Count true body) n (seenOf (Names.Count true body))) (c + 11) (n .kl)
+      → Lying t (fieldOf (Names.Count true body) n (seenHere (Names.Count true body))) (c + 11) (n .kl)
   unfolding fieldOf keyArea
   key-field body e = record {
     there = record-key (alone t) h c true body n e;
@@ -93,7 +93,7 @@ module _ (t : List ℕ) (h : Head) (c : ℕ) (n : Counts) where
       go (yes q) = omega (arith, count-lies (alone t) h c true body n e)
       go (no q) = key-lies (alone t) h c true body n e refl (omega arith)
 
-  field-by : (m : Names) → gets m (alone t) h c ≡ Sees n → Lying t (fieldOf m n (seenOf m)) (fieldFirst m c) (fieldLength m n)
+  field-by : (m : Names) → gets m (alone t) h c ≡ Sees n → Lying t (fieldOf m n (seenHere m)) (fieldFirst m c) (fieldLength m n)
   unfolding fieldOf fieldFirst fieldLength bytesOf part
   field-by Names.Nothing e = record { there = refl; ends = omega arith }
   field-by Names.HomeAddress e = home-field e
@@ -102,7 +102,7 @@ module _ (t : List ℕ) (h : Head) (c : ℕ) (n : Counts) where
 
 -- .. of a job
 abbrev pub fieldIn : List ℕ → Job → List ℕ
-fieldIn t j = fieldOf (j .rule .names) (j .counts) (saw (alone t) (areasRead (alone t) j))
+fieldIn t j = fieldOf (j .rule .names) (j .counts) (seenOf (alone t) (areasRead (alone t) j))
 
 pub field-lies : (t : List ℕ) (j : Job) → Sighted (alone t) j
     → Lying t (fieldIn t j) (fieldFirst (j .rule .names) (j .task .place)) (fieldLength (j .rule .names) (j .counts))

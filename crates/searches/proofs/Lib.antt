@@ -1,4 +1,4 @@
 -- Laws of the searches.
 pub mod Laws
 pub mod Fields
-pub mod Told
+pub mod Report

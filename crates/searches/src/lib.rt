@@ -5,8 +5,8 @@ use compare::Compared;
 use table::How;
 use table::Names;
 use turn::Ending;
-use turn::Moving;
-use turn::Told;
+use turn::Report;
+use turn::Transfer;
 ghost use mathlib.Core.Path.{_≡_};
 ghost use Prim.Native.Nat.{_+_, _≤_};
 ghost use lib.ListN.{length};
@@ -16,8 +16,8 @@ ghost use Rattle.cells.specs.Bytes.{part};
 ghost use Rattle.cells.specs.Cells.{bytesOf};
 ghost use Rattle.areas.specs.Areas.{countCells};
 ghost use Rattle.turn.specs.declared.Ending.the-variants.{Normal, Satisfied};
-ghost use Rattle.turn.specs.Turn.{alone, toldOf};
-ghost use Rattle.command.specs.Command.{flagBytes, idBytes, satisfies, found, equalOnly, Sighted, sight, comparison, compares};
+ghost use Rattle.turn.specs.Turn.{alone, reportOf};
+ghost use Rattle.command.specs.Command.{flagBytes, idBytes, satisfies, found, equalOnly, Sighted, sight, comparison, searchTurn};
 ghost use Rattle.searches.specs.Field.{fieldFirst, fieldLength};
 
 // Cells of a flag, and of a count area with its check.
@@ -115,9 +115,9 @@ fn compare_field(track: &[u16], first: usize, n: usize, sent: &[u8]) -> Compared
 }
 
 // What a search tells that has read its field.
-pub fn search(h: How, j: Job, sent: &[u8], track: &[u16]) -> Told
+pub fn search(h: How, j: Job, sent: &[u8], track: &[u16]) -> Report
     requires { ⌜ Sighted (alone (now track)) j ⌝ }
-    ensures { λ r. ⌜ r ≡ toldOf (compares h (sight (alone (now (track .entry))) j (now (sent .entry)))) ⌝ }
+    ensures { λ r. ⌜ r ≡ reportOf (searchTurn h (sight (alone (now (track .entry))) j (now (sent .entry)))) ⌝ }
 {
     let rule = j.rule;
     let names = rule.names;
@@ -126,5 +126,5 @@ pub fn search(h: How, j: Job, sent: &[u8], track: &[u16]) -> Told
     let x = compare_field(track, first, n as usize, sent);
     let whole = wholly(h, x, n, sent.len());
     let end = end_by(found(h, x, n));
-    ending::ended(j, end, Moving::Takes(n as u32), whole)
+    ending::ended(j, end, Transfer::Takes(n as u32), whole)
 }

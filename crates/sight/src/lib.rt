@@ -14,7 +14,7 @@ ghost use Rattle.pack.specs.declared.Head.{Head};
 ghost use Rattle.command.specs.declared.Got.the-variants.{Sees};
 ghost use Rattle.table.specs.declared.Names.the-variants as Names;
 ghost use Rattle.turn.specs.Turn.{alone};
-ghost use Rattle.command.specs.Command.{areaIf, named, noCounts, liesOn, allRead, gets};
+ghost use Rattle.command.specs.Command.{areaIf, named, noCounts, onHead, allRead, gets};
 
 // Whether an area is named and there, by its length.
 fn is_there(named: bool, length: u16) -> bool
@@ -25,7 +25,7 @@ fn is_there(named: bool, length: u16) -> bool
 
 // An area read before what else is got.
 fn read_area(track: &[u16], a: Area, x: Got) -> Got
-    ensures { λ r. ⌜ ((h : Head) → r ≡ allRead (alone (now (track .entry))) (liesOn h (a ∷ [])) x) ⌝ }
+    ensures { λ r. ⌜ ((h : Head) → r ≡ allRead (alone (now (track .entry))) (onHead h (a ∷ [])) x) ⌝ }
 {
     if areas::is_readable(track, a) {
         return x;
@@ -36,14 +36,14 @@ fn read_area(track: &[u16], a: Area, x: Got) -> Got
 
 // The same, if the area is there.
 fn read_if(track: &[u16], there: bool, a: Area, x: Got) -> Got
-    ensures { λ r. ⌜ ((h : Head) → r ≡ allRead (alone (now (track .entry))) (liesOn h (areaIf there a)) x) ⌝ }
+    ensures { λ r. ⌜ ((h : Head) → r ≡ allRead (alone (now (track .entry))) (onHead h (areaIf there a)) x) ⌝ }
 {
     if there { read_area(track, a, x) } else { x }
 }
 
 // The key and the data of a record, if they are named and there. The key's row stands before the data's.
 fn read_named(track: &[u16], c: u16, key: bool, body: bool, n: Counts) -> Got
-    ensures { λ r. ⌜ ((h : Head) → r ≡ allRead (alone (now (track .entry))) (liesOn h (named c key body n)) (Sees n)) ⌝ }
+    ensures { λ r. ⌜ ((h : Head) → r ≡ allRead (alone (now (track .entry))) (onHead h (named c key body n)) (Sees n)) ⌝ }
 {
     let data = is_there(body, n.dl);
     let got = read_if(track, data, areas::data_area(c, n), Got::Sees(n));
@@ -66,7 +66,7 @@ fn no_counts() -> Counts
 }
 
 fn read_home(track: &[u16]) -> Got
-    ensures { λ r. ⌜ ((h : Head) → r ≡ allRead (alone (now (track .entry))) (liesOn h (homeArea ∷ [])) (Sees noCounts)) ⌝ }
+    ensures { λ r. ⌜ ((h : Head) → r ≡ allRead (alone (now (track .entry))) (onHead h (homeArea ∷ [])) (Sees noCounts)) ⌝ }
 {
     let none = no_counts();
     read_area(track, areas::home_area(), Got::Sees(none))

@@ -13,8 +13,8 @@ use borrow.Author.Tests.{eqb-true, ne-eqb, eq-eqb}
 use Rattle.cells.specs.Choice.{pick, both, either}
 use Rattle.cells.specs.Cells.{trackCells}
 use Rattle.cells.proofs.Tests.{first-of, second-of}
-use Rattle.areas.specs.Areas.{homeArea, homeFlag, zeroFirst, countArea, keyArea, dataArea, readable, areaBytes, countsAt, recordCells, endBy}
-use Rattle.areas.specs.Flags.{flagOfZero, flagAfter}
+use Rattle.areas.specs.Areas.{homeArea, homeFlag, r0First, countArea, keyArea, dataArea, readable, areaBytes, countsAt, recordCells, endBy}
+use Rattle.areas.specs.Flags.{flagOfR0, flagAfter}
 use Rattle.sound.specs.Sound.{flagAt, endAt, Record, Records, none, more, Sound}
 use Rattle.sound.specs.Test.{allGaps, oneZero, recordOk, recordsOk, soundly}
 
@@ -138,13 +138,13 @@ unfolding soundly
 soundly-sound t e =
     let f = second-of (eqb (length t) trackCells) _ e in
     let g = second-of (readable t homeArea) _ f in
-    let h = second-of (recordOk t zeroFirst) _ g in
+    let h = second-of (recordOk t r0First) _ g in
     record {
       long = eqb-true _ _ (first-of (eqb (length t) trackCells) _ e);
       home = first-of (readable t homeArea) _ f;
-      zero = record-is t zeroFirst (first-of (recordOk t zeroFirst) _ g);
-      flag = eqb-true _ _ (first-of (eqb (flagAt t zeroFirst) (flagOfZero (homeFlag t))) _ h);
-      rest = records-are trackCells t _ _ (second-of (eqb (flagAt t zeroFirst) (flagOfZero (homeFlag t))) _ h);
+      zero = record-is t r0First (first-of (recordOk t r0First) _ g);
+      flag = eqb-true _ _ (first-of (eqb (flagAt t r0First) (flagOfR0 (homeFlag t))) _ h);
+      rest = records-are trackCells t _ _ (second-of (eqb (flagAt t r0First) (flagOfR0 (homeFlag t))) _ h);
     }
 
 pub sound-soundly : (t : List ℕ) → Sound t → soundly t ≡ true
@@ -152,6 +152,6 @@ unfolding soundly
 sound-soundly t S =
     ap₂ both (eq-eqb (length t) trackCells (S .long))
     (ap₂ both (S .home)
-    (ap₂ both (is-record t zeroFirst (S .zero))
-    (ap₂ both (eq-eqb (flagAt t zeroFirst) (flagOfZero (homeFlag t)) (S .flag))
+    (ap₂ both (is-record t r0First (S .zero))
+    (ap₂ both (eq-eqb (flagAt t r0First) (flagOfR0 (homeFlag t)) (S .flag))
     (are-records trackCells t _ _ (omega (arith, S .long)) (S .rest)))))

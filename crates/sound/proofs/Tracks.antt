@@ -7,22 +7,22 @@ use borrow.Author.Tests.{not-true}
 use Rattle.cells.specs.Choice.{pick}
 use Rattle.cells.specs.Bytes.{part}
 use Rattle.cells.specs.Cells.{bytesOf, cellsOf, allBytes}
-use Rattle.house_check.specs.Check.{step, feed, byteBits, bits, check}
-use Rattle.house_check.specs.Area.{agrees, goodCells, checked, laid}
+use Rattle.house_check.specs.Check.{bitStep, feed, byteBits, bits, check}
+use Rattle.house_check.specs.Area.{agrees, goodCells, withCheck, cellsWithCheck}
 use Rattle.areas.specs.Areas.{areaCells, readable, areaBytes, countsOf, countsAt, keyCells, keyArea, dataArea, recordCells, endBy}
-use Rattle.areas.specs.Flags.{flagOfZero, flagAfter}
+use Rattle.areas.specs.Flags.{flagOfR0, flagAfter}
 use Rattle.sound.specs.Sound.{Sound}
 use Rattle.sound.specs.Test.{allGaps, oneZero, recordOk, recordsOk, soundly, each}
-use Rattle.sound.specs.Tracks.{filled, home, count, zeroth, alone, keyed, recorded, right, nearMisses}
+use Rattle.sound.specs.Tracks.{trackOf, homeWith, countWith, usualR0, homeAndR0, keyed, oneRecord, rightTrack, nearMisses}
 use Rattle.sound.proofs.Test.{soundly-sound, sound-soundly}
 use Rattle.cells.proofs.Tests.{first-of, second-of}
 
-good : each true (alone ∷ keyed ∷ right ∷ []) ≡ true
-unfolding each alone keyed recorded right filled home count zeroth allGaps oneZero recordOk recordsOk soundly flagOfZero flagAfter areaCells readable areaBytes countsOf countsAt keyCells keyArea dataArea recordCells endBy agrees goodCells checked laid step feed byteBits bits check bytesOf cellsOf allBytes part
+good : each true (homeAndR0 ∷ keyed ∷ rightTrack ∷ []) ≡ true
+unfolding each homeAndR0 keyed oneRecord rightTrack trackOf homeWith countWith usualR0 allGaps oneZero recordOk recordsOk soundly flagOfR0 flagAfter areaCells readable areaBytes countsOf countsAt keyCells keyArea dataArea recordCells endBy agrees goodCells withCheck cellsWithCheck bitStep feed byteBits bits check bytesOf cellsOf allBytes part
 good = refl
 
 bad : each false nearMisses ≡ true
-unfolding each nearMisses recorded right filled home count zeroth allGaps oneZero recordOk recordsOk soundly flagOfZero flagAfter areaCells readable areaBytes countsOf countsAt keyCells keyArea dataArea recordCells endBy agrees goodCells checked laid step feed byteBits bits check bytesOf cellsOf allBytes part
+unfolding each nearMisses oneRecord rightTrack trackOf homeWith countWith usualR0 allGaps oneZero recordOk recordsOk soundly flagOfR0 flagAfter areaCells readable areaBytes countsOf countsAt keyCells keyArea dataArea recordCells endBy agrees goodCells withCheck cellsWithCheck bitStep feed byteBits bits check bytesOf cellsOf allBytes part
 bad = refl
 
 -- of tracks that test alike, each one
@@ -34,8 +34,8 @@ each-test b (x ∷ l) e t (List·Memᴰ·head q) =
 each-test b (x ∷ l) e t (List·Memᴰ·tail m) = each-test b l (second-of (pick b (soundly x) (not (soundly x))) (each b l) e) t m
 
 -- home address and R0 alone; keys and a record of DL 0; the track that the near misses are close to
-pub sound-tracks : (t : List ℕ) → List·Memᴰ t (alone ∷ keyed ∷ right ∷ []) → Sound t
-sound-tracks t m = soundly-sound t (each-test true (alone ∷ keyed ∷ right ∷ []) good t m)
+pub sound-tracks : (t : List ℕ) → List·Memᴰ t (homeAndR0 ∷ keyed ∷ rightTrack ∷ []) → Sound t
+sound-tracks t m = soundly-sound t (each-test true (homeAndR0 ∷ keyed ∷ rightTrack ∷ []) good t m)
 
 -- none of the near misses is soundly written
 pub near-misses : (t : List ℕ) → List·Memᴰ t nearMisses → Sound t → ⊥

@@ -6,8 +6,8 @@ use mathlib.Core.Bool.{true}
 use mathlib.Core.List.{List, [], _∷_}
 use lib.ListN.{length, getD}
 use Rattle.cells.specs.Cells.{trackCells, marker, gap}
-use Rattle.areas.specs.Areas.{homeArea, homeFlag, zeroFirst, countArea, keyArea, dataArea, readable, areaBytes, countsAt, endBy}
-use Rattle.areas.specs.Flags.{flagOfZero, flagAfter}
+use Rattle.areas.specs.Areas.{homeArea, homeFlag, r0First, countArea, keyArea, dataArea, readable, areaBytes, countsAt, endBy}
+use Rattle.areas.specs.Flags.{flagOfR0, flagAfter}
 
 -- the flag of the count area at c
 abbrev pub flagAt : List ℕ → ℕ → ℕ
@@ -33,6 +33,6 @@ pub data Records (t : List ℕ) : ℕ → ℕ → Type 0 where
 pub record Sound (t : List ℕ) : Type 0 where
   pub long : length t ≡ trackCells
   pub home : readable t homeArea ≡ true
-  pub zero : Record t zeroFirst
-  pub flag : flagAt t zeroFirst ≡ flagOfZero (homeFlag t)
-  pub rest : Records t (flagAt t zeroFirst) (endAt t zeroFirst)
+  pub zero : Record t r0First
+  pub flag : flagAt t r0First ≡ flagOfR0 (homeFlag t)
+  pub rest : Records t (flagAt t r0First) (endAt t r0First)

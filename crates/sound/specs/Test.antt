@@ -6,8 +6,8 @@ use lib.ListN.{length, getD, drop}
 use lib.Dec.{eqb}
 use Rattle.cells.specs.Choice.{pick, both, either}
 use Rattle.cells.specs.Cells.{trackCells, marker, gap}
-use Rattle.areas.specs.Areas.{homeArea, homeFlag, zeroFirst, countArea, keyArea, dataArea, readable, areaBytes, countsAt}
-use Rattle.areas.specs.Flags.{flagOfZero, flagAfter}
+use Rattle.areas.specs.Areas.{homeArea, homeFlag, r0First, countArea, keyArea, dataArea, readable, areaBytes, countsAt}
+use Rattle.areas.specs.Flags.{flagOfR0, flagAfter}
 use Rattle.sound.specs.Sound.{flagAt, endAt}
 
 unfoldable pub allGaps : List ℕ → Bool
@@ -38,9 +38,9 @@ unfoldable pub soundly : List ℕ → Bool
 soundly t =
     both (eqb (length t) trackCells)
     (both (readable t homeArea)
-    (both (recordOk t zeroFirst)
-    (both (eqb (flagAt t zeroFirst) (flagOfZero (homeFlag t)))
-    (recordsOk trackCells t (flagAt t zeroFirst) (endAt t zeroFirst)))))
+    (both (recordOk t r0First)
+    (both (eqb (flagAt t r0First) (flagOfR0 (homeFlag t)))
+    (recordsOk trackCells t (flagAt t r0First) (endAt t r0First)))))
 
 -- whether the test of each of some tracks comes to b
 unfoldable pub each : Bool → List (List ℕ) → Bool

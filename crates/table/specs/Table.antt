@@ -28,8 +28,8 @@ countKeyData = Names.Count true true
 abbrev pub selects : Bool
 selects = true
 
-abbrev pub leaves : Bool
-leaves = false
+abbrev pub selectsNone : Bool
+selectsNone = false
 
 abbrev pub excepts : Bool
 excepts = true
@@ -40,29 +40,29 @@ accepts = false
 abbrev pub counted : Bool
 counted = true
 
-abbrev pub bare : Bool
-bare = false
+abbrev pub uncounted : Bool
+uncounted = false
 
 -- ---- rows of a family: what all of them have in common is said once
 
 -- Sense and No-op leave sense as it is
-abbrev pub quiet : Control → Rule
-quiet a = record { licence = Licence.Any; bar = Bar.Nothing; aim = Aim.Stays; names = Names.Nothing; act = Act.Control a; selects = leaves; serves = Serves.Nobody; excepts = accepts; clears = false }
+abbrev pub quietRow : Control → Rule
+quietRow a = record { licence = Licence.Any; bar = Bar.Nothing; aim = Aim.Stays; names = Names.Nothing; act = Act.Control a; selects = selectsNone; serves = Serves.Nobody; excepts = accepts; clears = false }
 
-abbrev pub control : Licence → Bar → Control → Rule
-control l b a = record { licence = l; bar = b; aim = Aim.Stays; names = Names.Nothing; act = Act.Control a; selects = leaves; serves = Serves.Nobody; excepts = accepts; clears = true }
+abbrev pub controlRow : Licence → Bar → Control → Rule
+controlRow l b a = record { licence = l; bar = b; aim = Aim.Stays; names = Names.Nothing; act = Act.Control a; selects = selectsNone; serves = Serves.Nobody; excepts = accepts; clears = true }
 
-abbrev pub seek : Seeking → Rule
-seek k = control Licence.Any (Bar.Seeks k) (Control.Seek k)
+abbrev pub seekRow : Seeking → Rule
+seekRow k = controlRow Licence.Any (Bar.Seeks k) (Control.Seek k)
 
-abbrev pub search : Aim → Names → Bool → Serves → How → Rule
-search a n s v h = record { licence = Licence.Any; bar = Bar.Nothing; aim = a; names = n; act = Act.Search h; selects = s; serves = v; excepts = accepts; clears = true }
+abbrev pub searchRow : Aim → Names → Bool → Serves → How → Rule
+searchRow a n s v h = record { licence = Licence.Any; bar = Bar.Nothing; aim = a; names = n; act = Act.Search h; selects = s; serves = v; excepts = accepts; clears = true }
 
-abbrev pub read : Aim → Names → Bool → Bool → Serves → Bool → Rule
-read a n c s v x = record { licence = Licence.Any; bar = Bar.Nothing; aim = a; names = n; act = Act.Read c; selects = s; serves = v; excepts = x; clears = true }
+abbrev pub readRow : Aim → Names → Bool → Bool → Serves → Bool → Rule
+readRow a n c s v x = record { licence = Licence.Any; bar = Bar.Nothing; aim = a; names = n; act = Act.Read c; selects = s; serves = v; excepts = x; clears = true }
 
-abbrev pub write : Licence → Writing → Aim → Names → Write → Bool → Bool → Rule
-write l b a n w s x = record { licence = l; bar = Bar.Writes b; aim = a; names = n; act = Act.Write w; selects = s; serves = Serves.Nobody; excepts = x; clears = true }
+abbrev pub writeRow : Licence → Writing → Aim → Names → Write → Bool → Bool → Rule
+writeRow l b a n w s x = record { licence = l; bar = Bar.Writes b; aim = a; names = n; act = Act.Write w; selects = s; serves = Serves.Nobody; excepts = x; clears = true }
 
 -- ---- the table: a code, and its row
 
@@ -76,51 +76,51 @@ row c r = record { code = c; rule = r }
 -- No-op, Sense, Seek, Seek Cylinder, Seek Head, Set File Mask, Space Record
 unfoldable pub controls : List Entry
 controls =
-    row 0x03 (quiet Control.NoOp)
-    ∷ row 0x04 (quiet Control.Sense)
-    ∷ row 0x07 (seek Seeking.Seek)
-    ∷ row 0x0B (seek Seeking.SeekCylinder)
-    ∷ row 0x1B (seek Seeking.SeekHead)
-    ∷ row 0x1F (control Licence.Any Bar.Nothing Control.SetMask)
-    ∷ row 0x0F (control Licence.Look Bar.Nothing Control.SpaceRecord)
+    row 0x03 (quietRow Control.NoOp)
+    ∷ row 0x04 (quietRow Control.Sense)
+    ∷ row 0x07 (seekRow Seeking.Seek)
+    ∷ row 0x0B (seekRow Seeking.SeekCylinder)
+    ∷ row 0x1B (seekRow Seeking.SeekHead)
+    ∷ row 0x1F (controlRow Licence.Any Bar.Nothing Control.SetMask)
+    ∷ row 0x0F (controlRow Licence.Look Bar.Nothing Control.SpaceRecord)
     ∷ []
 
 -- Search HA; Search ID equal, high, equal or high; Search Key so
 unfoldable pub searches : List Entry
 searches =
-    row 0x39 (search Aim.HomeAddress Names.HomeAddress leaves Serves.Nobody How.IfEqual)
-    ∷ row 0x31 (search Aim.NextId count selects Serves.DataAndKey How.IfEqual)
-    ∷ row 0x51 (search Aim.NextId count selects Serves.DataAndKey How.IfHigh)
-    ∷ row 0x71 (search Aim.NextId count selects Serves.DataAndKey How.IfEqualOrHigh)
-    ∷ row 0x29 (search Aim.NextForKey countKey selects Serves.Data How.IfEqual)
-    ∷ row 0x49 (search Aim.NextForKey countKey selects Serves.Data How.IfHigh)
-    ∷ row 0x69 (search Aim.NextForKey countKey selects Serves.Data How.IfEqualOrHigh)
+    row 0x39 (searchRow Aim.HomeAddress Names.HomeAddress selectsNone Serves.Nobody How.IfEqual)
+    ∷ row 0x31 (searchRow Aim.NextId count selects Serves.DataAndKey How.IfEqual)
+    ∷ row 0x51 (searchRow Aim.NextId count selects Serves.DataAndKey How.IfHigh)
+    ∷ row 0x71 (searchRow Aim.NextId count selects Serves.DataAndKey How.IfEqualOrHigh)
+    ∷ row 0x29 (searchRow Aim.NextForKey countKey selects Serves.Data How.IfEqual)
+    ∷ row 0x49 (searchRow Aim.NextForKey countKey selects Serves.Data How.IfHigh)
+    ∷ row 0x69 (searchRow Aim.NextForKey countKey selects Serves.Data How.IfEqualOrHigh)
     ∷ []
 
 -- Read HA, R0, Count, Data, Key and Data, Count Key Data
 unfoldable pub reads : List Entry
 reads =
-    row 0x1A (read Aim.HomeAddress Names.HomeAddress bare leaves Serves.Nobody accepts)
-    ∷ row 0x16 (read Aim.R0 countKeyData counted leaves Serves.Nobody excepts)
-    ∷ row 0x12 (read Aim.Next count counted selects Serves.DataAndKey accepts)
-    ∷ row 0x06 (read Aim.NextForData countData bare leaves Serves.Nobody excepts)
-    ∷ row 0x0E (read Aim.NextForKey countKeyData bare leaves Serves.Nobody excepts)
-    ∷ row 0x1E (read Aim.Next countKeyData counted leaves Serves.Nobody excepts)
+    row 0x1A (readRow Aim.HomeAddress Names.HomeAddress uncounted selectsNone Serves.Nobody accepts)
+    ∷ row 0x16 (readRow Aim.R0 countKeyData counted selectsNone Serves.Nobody excepts)
+    ∷ row 0x12 (readRow Aim.Next count counted selects Serves.DataAndKey accepts)
+    ∷ row 0x06 (readRow Aim.NextForData countData uncounted selectsNone Serves.Nobody excepts)
+    ∷ row 0x0E (readRow Aim.NextForKey countKeyData uncounted selectsNone Serves.Nobody excepts)
+    ∷ row 0x1E (readRow Aim.Next countKeyData counted selectsNone Serves.Nobody excepts)
     ∷ []
 
 -- Write HA, R0, Count Key Data, Data, Key and Data
 unfoldable pub writes : List Entry
 writes =
-    row 0x19 (write Licence.Any Writing.HomeOrZero Aim.HomeAddress Names.Nothing Write.HomeAddress leaves accepts)
-    ∷ row 0x15 (write Licence.HomeAddress Writing.HomeOrZero Aim.R0 Names.HomeAddress Write.R0 selects accepts)
-    ∷ row 0x1D (write Licence.Record Writing.Record Aim.Selected count Write.CountKeyData selects accepts)
-    ∷ row 0x05 (write Licence.EqualIdOrKey Writing.Update Aim.Selected count (Write.Update false) leaves excepts)
-    ∷ row 0x0D (write Licence.EqualId Writing.Update Aim.Selected count (Write.Update true) leaves excepts)
+    row 0x19 (writeRow Licence.Any Writing.HomeOrR0 Aim.HomeAddress Names.Nothing Write.HomeAddress selectsNone accepts)
+    ∷ row 0x15 (writeRow Licence.HomeAddress Writing.HomeOrR0 Aim.R0 Names.HomeAddress Write.R0 selects accepts)
+    ∷ row 0x1D (writeRow Licence.WrittenOrEqual Writing.CountKeyData Aim.Selected count Write.CountKeyData selects accepts)
+    ∷ row 0x05 (writeRow Licence.EqualIdOrKey Writing.Update Aim.Selected count (Write.Update false) selectsNone excepts)
+    ∷ row 0x0D (writeRow Licence.EqualId Writing.Update Aim.Selected count (Write.Update true) selectsNone excepts)
     ∷ []
 
 -- any other code
 abbrev pub unknown : Rule
-unknown = control Licence.Any Bar.Nothing Control.Unknown
+unknown = controlRow Licence.Any Bar.Nothing Control.Unknown
 
 -- the row of a code, or else this one
 unfoldable pub find : ℕ → List Entry → Rule → Rule

@@ -3,7 +3,7 @@ use mask::Seeking;
 use mask::Writing;
 ghost use mathlib.Core.Path.{_≡_};
 ghost use mathlib.Core.Bool.{true, false};
-ghost use Rattle.table.specs.Table.{seek, search, read, write, count, countKey, selects, leaves, accepts, excepts};
+ghost use Rattle.table.specs.Table.{seekRow, searchRow, readRow, writeRow, count, countKey, selects, selectsNone, accepts, excepts};
 ghost use Rattle.table.specs.Table.{searches, reads, writes, unknown, find, ruleOf, looks, servesData, servesKey, isHome};
 ghost use Rattle.mask.specs.declared.Writing.the-variants as Writing;
 ghost use Rattle.table.specs.declared.Licence.the-variants as Licence;
@@ -27,7 +27,7 @@ pub enum Licence {
     Any,
     Look,
     HomeAddress,
-    Record,
+    WrittenOrEqual,
     EqualIdOrKey,
     EqualId,
 }
@@ -115,7 +115,7 @@ const ACCEPTS: bool = false;
 
 // Control: sense is cleared first, or is not.
 fn control_row(l: Licence, b: Bar, a: Control, clears: bool) -> Rule
-    ensures { λ r. ⌜ r ≡ record { licence = l; bar = b; aim = Aim.Stays; names = Names.Nothing; act = Act.Control a; selects = leaves; serves = Serves.Nobody; excepts = accepts; clears = clears } ⌝ }
+    ensures { λ r. ⌜ r ≡ record { licence = l; bar = b; aim = Aim.Stays; names = Names.Nothing; act = Act.Control a; selects = selectsNone; serves = Serves.Nobody; excepts = accepts; clears = clears } ⌝ }
 {
     Rule {
         licence: l,
@@ -131,7 +131,7 @@ fn control_row(l: Licence, b: Bar, a: Control, clears: bool) -> Rule
 }
 
 fn seek_row(k: Seeking) -> Rule
-    ensures { λ r. ⌜ r ≡ seek k ⌝ }
+    ensures { λ r. ⌜ r ≡ seekRow k ⌝ }
 {
     control_row(Licence::Any, Bar::Seeks(k), Control::Seek(k), true)
 }
@@ -155,7 +155,7 @@ fn selecting_row(a: Aim, key: bool, act: Act, v: Serves) -> Rule
 
 // A search or a read that does not.
 fn leaving_row(a: Aim, n: Names, act: Act, x: bool) -> Rule
-    ensures { λ r. ⌜ r ≡ record { licence = Licence.Any; bar = Bar.Nothing; aim = a; names = n; act = act; selects = leaves; serves = Serves.Nobody; excepts = x; clears = true } ⌝ }
+    ensures { λ r. ⌜ r ≡ record { licence = Licence.Any; bar = Bar.Nothing; aim = a; names = n; act = act; selects = selectsNone; serves = Serves.Nobody; excepts = x; clears = true } ⌝ }
 {
     Rule {
         licence: Licence::Any,
@@ -171,7 +171,7 @@ fn leaving_row(a: Aim, n: Names, act: Act, x: bool) -> Rule
 }
 
 fn write_row(l: Licence, b: Writing, a: Aim, n: Names, w: Write, s: bool, x: bool) -> Rule
-    ensures { λ r. ⌜ r ≡ write l b a n w s x ⌝ }
+    ensures { λ r. ⌜ r ≡ writeRow l b a n w s x ⌝ }
 {
     Rule {
         licence: l,
@@ -188,7 +188,7 @@ fn write_row(l: Licence, b: Writing, a: Aim, n: Names, w: Write, s: bool, x: boo
 
 // Write Data and Write Key and Data.
 fn update_row(l: Licence, key: bool) -> Rule
-    ensures { λ r. ⌜ r ≡ write l Writing.Update Aim.Selected count (Write.Update key) leaves excepts ⌝ }
+    ensures { λ r. ⌜ r ≡ writeRow l Writing.Update Aim.Selected count (Write.Update key) selectsNone excepts ⌝ }
 {
     write_row(
         l,
@@ -207,7 +207,7 @@ fn write_of(code: u8) -> Rule
     match code {
         0x19 => write_row(
             Licence::Any,
-            Writing::HomeOrZero,
+            Writing::HomeOrR0,
             Aim::HomeAddress,
             Names::Nothing,
             Write::HomeAddress,
@@ -216,7 +216,7 @@ fn write_of(code: u8) -> Rule
         ),
         0x15 => write_row(
             Licence::HomeAddress,
-            Writing::HomeOrZero,
+            Writing::HomeOrR0,
             Aim::R0,
             Names::HomeAddress,
             Write::R0,
@@ -224,8 +224,8 @@ fn write_of(code: u8) -> Rule
             ACCEPTS,
         ),
         0x1D => write_row(
-            Licence::Record,
-            Writing::Record,
+            Licence::WrittenOrEqual,
+            Writing::CountKeyData,
             Aim::Selected,
             Names::Count(false, false),
             Write::CountKeyData,
@@ -240,14 +240,14 @@ fn write_of(code: u8) -> Rule
 
 // A search or a read of the home address.
 fn home_row(act: Act) -> Rule
-    ensures { λ r. ⌜ r ≡ record { licence = Licence.Any; bar = Bar.Nothing; aim = Aim.HomeAddress; names = Names.HomeAddress; act = act; selects = leaves; serves = Serves.Nobody; excepts = accepts; clears = true } ⌝ }
+    ensures { λ r. ⌜ r ≡ record { licence = Licence.Any; bar = Bar.Nothing; aim = Aim.HomeAddress; names = Names.HomeAddress; act = act; selects = selectsNone; serves = Serves.Nobody; excepts = accepts; clears = true } ⌝ }
 {
     leaving_row(Aim::HomeAddress, Names::HomeAddress, act, ACCEPTS)
 }
 
 // A read of a record's data, with the key or not; a count's 8 bytes move, or do not.
 fn data_row(a: Aim, key: bool, counted: bool) -> Rule
-    ensures { λ r. ⌜ r ≡ read a (Names.Count key true) counted leaves Serves.Nobody excepts ⌝ }
+    ensures { λ r. ⌜ r ≡ readRow a (Names.Count key true) counted selectsNone Serves.Nobody excepts ⌝ }
 {
     leaving_row(a, Names::Count(key, true), Act::Read(counted), EXCEPTS)
 }
@@ -267,13 +267,13 @@ fn read_of(code: u8) -> Rule
 }
 
 fn search_id_row(h: How) -> Rule
-    ensures { λ r. ⌜ r ≡ search Aim.NextId count selects Serves.DataAndKey h ⌝ }
+    ensures { λ r. ⌜ r ≡ searchRow Aim.NextId count selects Serves.DataAndKey h ⌝ }
 {
     selecting_row(Aim::NextId, false, Act::Search(h), Serves::DataAndKey)
 }
 
 fn search_key_row(h: How) -> Rule
-    ensures { λ r. ⌜ r ≡ search Aim.NextForKey countKey selects Serves.Data h ⌝ }
+    ensures { λ r. ⌜ r ≡ searchRow Aim.NextForKey countKey selects Serves.Data h ⌝ }
 {
     selecting_row(Aim::NextForKey, true, Act::Search(h), Serves::Data)
 }

@@ -8,9 +8,9 @@ use Rattle.cells.specs.Choice.{pick}
 use Rattle.cells.specs.Cells.{trackCells, marks}
 use Rattle.rows.specs.declared.{Row.Row}
 use Rattle.hunt.specs.declared.{Spot.Spot, Next.Next}
-use Rattle.hunt.specs.Hunt.{Whole, countFirst, spacedTo}
+use Rattle.hunt.specs.Hunt.{WholeTrack, countFirst, spacedTo}
 use Rattle.hunt.proofs.Inside.{NextOn, next-in, spot-in}
-use Rattle.held.specs.declared.{Selection.Selection, Stands.Stands, Orders.Orders}
+use Rattle.held.specs.declared.{Selection.Selection, Position.Position, Orders.Orders}
 use Rattle.held.specs.declared.Selection.the-variants.{Nothing, On}
 use Rattle.pack.specs.declared.{Head.Head}
 use Rattle.command.specs.Command.{SelectedOn}
@@ -19,9 +19,9 @@ use Rattle.table.specs.declared.{Aim.Aim, Rule.Rule}
 use Rattle.turn.specs.Turn.{Tracks, alone}
 use Rattle.command.specs.declared.{Plan.Plan}
 use Rattle.command.specs.declared.Plan.the-variants.{Refuses}
-use Rattle.command.specs.Command.{Marks, marksOf, licensed, onRecord, onSelected, toNext, toServed, aimed, unlessBarred, plans}
+use Rattle.command.specs.Command.{Marks, marksOf, licensed, onRecord, onSelected, toNext, toServed, aimed, unlessBarred, planOf}
 
-pub come-to : (x : Next) (spot : Spot) (n : ℕ) → x ≡ Next.Stands spot n → spacedTo x ≤ trackCells → countFirst spot ≤ trackCells
+pub come-to : (x : Next) (spot : Spot) (n : ℕ) → x ≡ Next.ComesTo spot n → spacedTo x ≤ trackCells → countFirst spot ≤ trackCells
 unfolding spacedTo
 come-to x spot n e h = subst (λ (y : Next). spacedTo y ≤ trackCells) e h
 
@@ -29,7 +29,7 @@ pub selected : (x : Selection) (spot : Spot) → x ≡ On spot → selectedPlace
 unfolding selectedPlace
 selected x spot e h = subst (λ (y : Selection). selectedPlace y ≤ trackCells) e h
 
-module _ (t : List ℕ) (w : Whole t) where
+module _ (t : List ℕ) (w : WholeTrack t) where
   pub next-place : (x y : Next) → x ≡ y → NextOn (marks t) y → spacedTo x ≤ trackCells
   next-place x y e h = next-in t w x (subst (NextOn (marks t)) (sym e) h)
 
@@ -50,7 +50,7 @@ module _ (r : Rule) (o : Orders) (h : Head) (x : Selection) (other p : Plan) whe
   unfolding onSelected
   on-none e f = f ∙ ap (λ (y : Selection). onSelected r o h y other) (sym e)
 
-module _ (r : Rule) (m : Marks) (s : Stands) (o : Orders) (serves : Bool) (p : Plan) where
+module _ (r : Rule) (m : Marks) (s : Position) (o : Orders) (serves : Bool) (p : Plan) where
   pub served-one : (spot : Spot) → serves ≡ true → o .selection ≡ On spot → p ≡ onRecord r o (s .head) spot 0 → p ≡ toServed r m s o serves
   unfolding toServed
   served-one spot e q f = on-one r o (s .head) (o .selection) (toNext r m s o) p spot q f ∙ ap (toServed r m s o) (sym e)
@@ -65,7 +65,7 @@ module _ (r : Rule) (m : Marks) (s : Stands) (o : Orders) (serves : Bool) (p : P
 
 -- ---- of the cylinder only the track under the head is seen
 
-aimed-on : (r : Rule) (t : Tracks) (s : Stands) (o : Orders) (a : Aim) → aimed r (marksOf t) s o a ≡ aimed r (marksOf (alone (t (s .head)))) s o a
+aimed-on : (r : Rule) (t : Tracks) (s : Position) (o : Orders) (a : Aim) → aimed r (marksOf t) s o a ≡ aimed r (marksOf (alone (t (s .head)))) s o a
 unfolding aimed toServed toNext marksOf
 aimed-on r t s o Aim.Stays = refl
 aimed-on r t s o Aim.HomeAddress = refl
@@ -76,7 +76,7 @@ aimed-on r t s o Aim.NextForData = refl
 aimed-on r t s o Aim.NextForKey = refl
 aimed-on r t s o Aim.Selected = refl
 
-pub plans-on : (r : Rule) (t : Tracks) (s : Stands) (o : Orders) → plans r (marksOf t) s o ≡ plans r (marksOf (alone (t (s .head)))) s o
-unfolding plans
+pub plans-on : (r : Rule) (t : Tracks) (s : Position) (o : Orders) → planOf r (marksOf t) s o ≡ planOf r (marksOf (alone (t (s .head)))) s o
+unfolding planOf
 plans-on r t s o =
     ap (λ (x : Plan). pick (licensed (r .licence) o) (unlessBarred (r .bar) (o .mask) x) (Refuses Row.WrongBefore)) (aimed-on r t s o (r .aim))

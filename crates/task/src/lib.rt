@@ -2,8 +2,8 @@
 use command::Plan;
 use command::Task;
 use held::Orders;
+use held::Position;
 use held::Selection;
-use held::Stands;
 use hunt::Next;
 use hunt::Spot;
 use pack::Head;
@@ -18,7 +18,7 @@ ghost use Prim.Native.Nat.{_≤_};
 ghost use Rattle.cells.specs.Cells.{trackCells, marks};
 ghost use Rattle.cells.specs.Choice.{pick, either};
 ghost use Rattle.rows.specs.declared.Row.the-variants as Row;
-ghost use Rattle.hunt.specs.Hunt.{Whole, countFirst, spacedTo};
+ghost use Rattle.hunt.specs.Hunt.{WholeTrack, countFirst, spacedTo};
 ghost use Rattle.held.specs.declared.Selection.the-variants.{Nothing, On};
 ghost use Rattle.command.specs.Command.{SelectedOn};
 ghost use Rattle.task.specs.Inside.{selectedPlace};
@@ -27,7 +27,7 @@ ghost use Rattle.table.specs.Table.{ruleOf, looks, servesData, servesKey};
 ghost use Rattle.table.specs.declared.Aim.the-variants as Aim;
 ghost use Rattle.turn.specs.Turn.{alone};
 ghost use Rattle.command.specs.declared.Plan.the-variants.{Refuses, Works};
-ghost use Rattle.command.specs.Command.{task, marksOf, licensed, tallies, onRecord, onNext, onSelected, toNext, toServed, aimed, unlessBarred, plans};
+ghost use Rattle.command.specs.Command.{task, marksOf, licensed, tallies, onRecord, onNext, onSelected, toNext, toServed, aimed, unlessBarred, planOf};
 
 const SEARCH_ID_EQUAL: u8 = 0x31;
 
@@ -95,7 +95,7 @@ fn licensed(l: Licence, o: Orders) -> bool
         Licence::Any => true,
         Licence::Look => looked(o.before),
         Licence::HomeAddress => home_done(o.before, o.whole),
-        Licence::Record => record_licensed(o.before, o.whole),
+        Licence::WrittenOrEqual => record_licensed(o.before, o.whole),
         Licence::EqualIdOrKey => equal_id_or_key(o.before, o.whole),
         Licence::EqualId => equal_id(o.before, o.whole),
     }
@@ -150,7 +150,7 @@ fn on_next(r: Rule, o: Orders, h: Head, next: Next) -> Plan
     ensures { λ x. ⌜ x ≡ onNext r o h next ⌝ }
 {
     match next {
-        Next::Stands(spot, n) => on_record(r, o, h, spot, n),
+        Next::ComesTo(spot, n) => on_record(r, o, h, spot, n),
         Next::NoMarker => Plan::Refuses(Row::NoMarker),
     }
 }
@@ -168,8 +168,8 @@ fn on_selected(r: Rule, o: Orders, h: Head) -> Plan
 }
 
 // The next record.
-fn to_next(r: Rule, track: &[u16], s: Stands, o: Orders) -> Plan
-    requires { ⌜ Whole (now track) ⌝ }
+fn to_next(r: Rule, track: &[u16], s: Position, o: Orders) -> Plan
+    requires { ⌜ WholeTrack (now track) ⌝ }
     ensures { λ x. ⌜ x ≡ toNext r (marksOf (alone (now (track .entry)))) s o ⌝ }
 {
     let head = s.head;
@@ -177,8 +177,8 @@ fn to_next(r: Rule, track: &[u16], s: Stands, o: Orders) -> Plan
 }
 
 // The record selected, where the command before serves this one, or else the next.
-fn to_served(r: Rule, track: &[u16], s: Stands, o: Orders, serves: bool) -> Plan
-    requires { ⌜ Whole (now track) × SelectedOn (marks (now track)) (o .selection) ⌝ }
+fn to_served(r: Rule, track: &[u16], s: Position, o: Orders, serves: bool) -> Plan
+    requires { ⌜ WholeTrack (now track) × SelectedOn (marks (now track)) (o .selection) ⌝ }
     ensures { λ x. ⌜ x ≡ toServed r (marksOf (alone (now (track .entry)))) s o serves ⌝ }
 {
     if !serves {
@@ -193,8 +193,8 @@ fn to_served(r: Rule, track: &[u16], s: Stands, o: Orders, serves: bool) -> Plan
 }
 
 // By Search ID's rule.
-fn to_next_id(r: Rule, track: &[u16], s: Stands, o: Orders) -> Plan
-    requires { ⌜ Whole (now track) ⌝ }
+fn to_next_id(r: Rule, track: &[u16], s: Position, o: Orders) -> Plan
+    requires { ⌜ WholeTrack (now track) ⌝ }
     ensures { λ x. ⌜ x ≡ aimed r (marksOf (alone (now (track .entry)))) s o Aim.NextId ⌝ }
 {
     let head = s.head;
@@ -231,15 +231,15 @@ fn task_at(h: Head, place: u16) -> Plan
     })
 }
 
-fn aimed(r: Rule, track: &[u16], s: Stands, o: Orders, a: Aim) -> Plan
-    requires { ⌜ Whole (now track) × SelectedOn (marks (now track)) (o .selection) ⌝ }
+fn aimed(r: Rule, track: &[u16], s: Position, o: Orders, a: Aim) -> Plan
+    requires { ⌜ WholeTrack (now track) × SelectedOn (marks (now track)) (o .selection) ⌝ }
     ensures { λ x. ⌜ x ≡ aimed r (marksOf (alone (now (track .entry)))) s o a ⌝ }
 {
     let head = s.head;
     match a {
         Aim::Stays => task_at(head, s.place),
         Aim::HomeAddress => task_at(head, HOME_PLACE),
-        Aim::R0 => on_record(r, o, head, Spot::Zero, 0),
+        Aim::R0 => on_record(r, o, head, Spot::R0, 0),
         Aim::NextId => to_next_id(r, track, s, o),
         Aim::Next => to_next(r, track, s, o),
         Aim::NextForData => to_served(r, track, s, o, is_serving_data(o.before)),
@@ -267,9 +267,9 @@ fn unless_barred(b: Bar, mask: u8, x: Plan) -> Plan
 }
 
 // Where a command works, or the row that ends it.
-pub fn plan(rule: Rule, track: &[u16], s: Stands, o: Orders) -> Plan
-    requires { ⌜ Whole (now track) × SelectedOn (marks (now track)) (o .selection) ⌝ }
-    ensures { λ r. ⌜ r ≡ plans rule (marksOf (alone (now (track .entry)))) s o ⌝ }
+pub fn plan(rule: Rule, track: &[u16], s: Position, o: Orders) -> Plan
+    requires { ⌜ WholeTrack (now track) × SelectedOn (marks (now track)) (o .selection) ⌝ }
+    ensures { λ r. ⌜ r ≡ planOf rule (marksOf (alone (now (track .entry)))) s o ⌝ }
 {
     let licence = rule.licence;
     if !licensed(licence, o) {

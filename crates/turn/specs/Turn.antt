@@ -9,8 +9,8 @@ use Rattle.rows.specs.declared.{Row.Row, Sense.Sense}
 use Rattle.rows.specs.Rows.{sense, senseOf, rowTakes}
 use Rattle.areas.specs.declared.{Area.Area}
 use Rattle.pack.specs.declared.{Cylinder.Cylinder, Head.Head}
-use Rattle.held.specs.declared.{Stands.Stands, Orders.Orders, Selection.Selection}
-use Rattle.turn.specs.declared.{Ending.Ending, Moving.Moving, Told.Told}
+use Rattle.held.specs.declared.{Position.Position, Orders.Orders, Selection.Selection}
+use Rattle.turn.specs.declared.{Ending.Ending, Transfer.Transfer, Report.Report}
 
 -- all that a command sees of the pack: the tracks of the cylinder, by their heads
 abbrev pub Tracks : Type 0
@@ -21,7 +21,7 @@ abbrev pub alone : List ℕ → Tracks
 alone t h = t
 
 -- an area of a head's track
-pub record Lies : Type 0 where
+pub record TrackArea : Type 0 where
   pub head : Head
   pub area : Area
 
@@ -45,16 +45,16 @@ given (Gives v) = v
 given (Takes n) = []
 
 -- the numbers alone
-unfoldable pub movingOf : Moves → Moving
-movingOf None = Moving.None
-movingOf (Gives v) = Moving.Gives (length v)
-movingOf (Takes n) = Moving.Takes n
+unfoldable pub transferOf : Moves → Transfer
+transferOf None = Transfer.None
+transferOf (Gives v) = Transfer.Gives (length v)
+transferOf (Takes n) = Transfer.Takes n
 
 -- how many bytes the device wants, in either direction
-unfoldable pub wants : Moving → ℕ
-wants Moving.None = 0
-wants (Moving.Gives n) = n
-wants (Moving.Takes n) = n
+unfoldable pub wants : Transfer → ℕ
+wants Transfer.None = 0
+wants (Transfer.Gives n) = n
+wants (Transfer.Takes n) = n
 
 -- lent bytes after those from one on were put there, as many as find room
 unfoldable pub filled : List ℕ → ℕ → List ℕ → List ℕ
@@ -65,38 +65,38 @@ filled l from v = overlay l 0 (take (length l) (drop from v))
 pub record Turn : Type 0 where
   pub ending : Ending
   pub moves : Moves
-  pub reads : List Lies
+  pub reads : List TrackArea
   pub lays : List Piece
-  pub stands : Stands
+  pub position : Position
   pub orders : Orders
 
-abbrev pub turn : Ending → Moves → List Lies → List Piece → Stands → Orders → Turn
-turn e m r l s o = record { ending = e; moves = m; reads = r; lays = l; stands = s; orders = o }
+abbrev pub turn : Ending → Moves → List TrackArea → List Piece → Position → Orders → Turn
+turn e m r l s o = record { ending = e; moves = m; reads = r; lays = l; position = s; orders = o }
 
 -- what the channel is told of it
-unfoldable pub toldOf : Turn → Told
-toldOf t = record { ending = t .ending; moving = movingOf (t .moves); stands = t .stands; orders = t .orders }
+unfoldable pub reportOf : Turn → Report
+reportOf t = record { ending = t .ending; transfer = transferOf (t .moves); position = t .position; orders = t .orders }
 
 -- a track with pieces laid on it, one after another
-unfoldable pub laid : List Piece → List ℕ → List ℕ
-laid [] t = t
-laid (p ∷ l) t = laid l (overlay t (p .first) (p .cells))
+unfoldable pub lay : List Piece → List ℕ → List ℕ
+lay [] t = t
+lay (p ∷ l) t = lay l (overlay t (p .first) (p .cells))
 
 -- ---- what is held: where the head stands, and what the next command finds
 
-unfoldable pub standing : Cylinder → Head → ℕ → Sense → Stands
-standing c h p x = record { cylinder = c; head = h; place = p; sense = x }
+unfoldable pub positionAt : Cylinder → Head → ℕ → Sense → Position
+positionAt c h p x = record { cylinder = c; head = h; place = p; sense = x }
 
 -- the same place, with this in sense
-unfoldable pub sensing : Stands → Sense → Stands
-sensing s x = standing (s .cylinder) (s .head) (s .place) x
+unfoldable pub withSense : Position → Sense → Position
+withSense s x = positionAt (s .cylinder) (s .head) (s .place) x
 
 -- a seek sets place 0, and clears sense
-unfoldable pub sought : Cylinder → Head → Stands
-sought c h = standing c h 0 (sense 0 0)
+unfoldable pub positionSought : Cylinder → Head → Position
+positionSought c h = positionAt c h 0 (sense 0 0)
 
-unfoldable pub ordered : ℕ → Bool → ℕ → Bool → ℕ → Selection → Orders
-ordered mask set before whole tally selection = record {
+unfoldable pub ordersOf : ℕ → Bool → ℕ → Bool → ℕ → Selection → Orders
+ordersOf mask set before whole tally selection = record {
   mask = mask;
   «mask_set» = set;
   before = before;
@@ -107,7 +107,7 @@ ordered mask set before whole tally selection = record {
 
 -- after the command with this code: the mask stands
 unfoldable pub after : Orders → ℕ → Bool → ℕ → Selection → Orders
-after o code whole tally selection = ordered (o .mask) (o .«mask_set») code whole tally selection
+after o code whole tally selection = ordersOf (o .mask) (o .«mask_set») code whole tally selection
 
 -- ---- Unit Check: no cell is laid, the place stands, and sense says the row
 
@@ -117,5 +117,5 @@ isCheck Ending.Satisfied = false
 isCheck Ending.Exception = false
 isCheck (Ending.Check row) = true
 
-unfoldable pub checks : Stands → Orders → List Lies → Row → Turn
-checks s o r row = turn (Ending.Check row) (Takes (rowTakes row)) r [] (sensing s (senseOf row)) o
+unfoldable pub checkTurn : Position → Orders → List TrackArea → Row → Turn
+checkTurn s o r row = turn (Ending.Check row) (Takes (rowTakes row)) r [] (withSense s (senseOf row)) o

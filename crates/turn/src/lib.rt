@@ -1,6 +1,6 @@
 // What a command does, without the bytes and cells of it.
 use held::Orders;
-use held::Stands;
+use held::Position;
 use rows::Row;
 
 // How a command ended.
@@ -12,16 +12,16 @@ pub enum Ending {
 }
 
 // The bytes that move: none, and length does not count; so many that it gives; so many that it takes of those sent.
-pub enum Moving {
+pub enum Transfer {
     None,
     Gives(u32),
     Takes(u32),
 }
 
 // How a command ends, how many bytes move, and what is held then.
-pub struct Told {
+pub struct Report {
     pub ending: Ending,
-    pub moving: Moving,
-    pub stands: Stands,
+    pub transfer: Transfer,
+    pub position: Position,
     pub orders: Orders,
 }

@@ -5,25 +5,25 @@ use command::Plan;
 use command::Ready;
 use command::Task;
 use held::Orders;
-use held::Stands;
+use held::Position;
 use pack::Shape;
 use table::Act;
 use table::Control;
 use table::Rule;
-use turn::Told;
+use turn::Report;
 ghost use mathlib.Core.Path.{_≡_};
 ghost use mathlib.Core.List.{List};
 ghost use Prim.Native.Nat.{ℕ};
 ghost use Rattle.cells.specs.Cells.{marks};
-ghost use Rattle.hunt.specs.Hunt.{Whole};
+ghost use Rattle.hunt.specs.Hunt.{WholeTrack};
 ghost use Rattle.command.specs.Command.{SelectedOn};
-ghost use Rattle.turn.specs.Turn.{Tracks, alone, filled, given, toldOf, laid};
+ghost use Rattle.turn.specs.Turn.{Tracks, alone, filled, given, reportOf, lay};
 ghost use Rattle.command.specs.declared.Plan.the-variants.{Works};
-ghost use Rattle.command.specs.Command.{Sighted, sight, does, acts, readyBy, readies};
+ghost use Rattle.command.specs.Command.{Sighted, sight, controlTurn, actTurn, readyBy, readyOf};
 ghost use Rattle.unit.specs.Unit.{Accepts};
 
 // All that a task names is read.
-fn read(code: u8, r: Rule, s: Stands, o: Orders, k: Task, track: &[u16]) -> Ready
+fn read(code: u8, r: Rule, s: Position, o: Orders, k: Task, track: &[u16]) -> Ready
     ensures { λ x. ⌜ x ≡ readyBy (alone (now (track .entry))) code r s o (Works k) ⌝ }
 {
     let names = r.names;
@@ -31,7 +31,7 @@ fn read(code: u8, r: Rule, s: Stands, o: Orders, k: Task, track: &[u16]) -> Read
         Got::Sees(counts) => Ready::Acts(Job {
             code,
             rule: r,
-            stands: s,
+            position: s,
             orders: o,
             task: k,
             counts,
@@ -41,9 +41,9 @@ fn read(code: u8, r: Rule, s: Stands, o: Orders, k: Task, track: &[u16]) -> Read
 }
 
 // What a command comes to on the track under the head: a row of the Unit Check table, or a job.
-pub fn ready(code: u8, track: &[u16], s: Stands, o: Orders) -> Ready
-    requires { ⌜ Whole (now track) × SelectedOn (marks (now track)) (o .selection) ⌝ }
-    ensures { λ r. ⌜ r ≡ readies (alone (now (track .entry))) s o code ⌝ }
+pub fn ready(code: u8, track: &[u16], s: Position, o: Orders) -> Ready
+    requires { ⌜ WholeTrack (now track) × SelectedOn (marks (now track)) (o .selection) ⌝ }
+    ensures { λ r. ⌜ r ≡ readyOf (alone (now (track .entry))) s o code ⌝ }
 {
     let rule = table::rule_of(code);
     match task::plan(rule, track, s, o) {
@@ -53,9 +53,9 @@ pub fn ready(code: u8, track: &[u16], s: Stands, o: Orders) -> Ready
 }
 
 // What a job tells the channel.
-pub fn ask(g: Shape, j: Job, sent: &[u8], track: &[u16]) -> Told
-    requires { ⌜ Whole (now track) × Sighted (alone (now track)) j ⌝ }
-    ensures { λ r. ⌜ r ≡ toldOf (acts g (j .rule .act) (sight (alone (now (track .entry))) j (now (sent .entry)))) ⌝ }
+pub fn ask(g: Shape, j: Job, sent: &[u8], track: &[u16]) -> Report
+    requires { ⌜ WholeTrack (now track) × Sighted (alone (now track)) j ⌝ }
+    ensures { λ r. ⌜ r ≡ reportOf (actTurn g (j .rule .act) (sight (alone (now (track .entry))) j (now (sent .entry)))) ⌝ }
 {
     let rule = j.rule;
     let act = rule.act;
@@ -69,18 +69,18 @@ pub fn ask(g: Shape, j: Job, sent: &[u8], track: &[u16]) -> Told
 
 // The bytes that a control command gives: those of Sense.
 fn give_control(k: Control, j: Job, from: u32, into: &mut [u8])
-    ensures { λ _. ⌜ ((g : Shape) (t : Tracks) (v : List ℕ) → now (into .exit) ≡ filled (now (into .entry)) from (given (does g k (sight t j v) .moves))) ⌝ }
+    ensures { λ _. ⌜ ((g : Shape) (t : Tracks) (v : List ℕ) → now (into .exit) ≡ filled (now (into .entry)) from (given (controlTurn g k (sight t j v) .moves))) ⌝ }
 {
     if let Control::Sense = k {
-        let stands = j.stands;
-        controls::give_sense(stands, from, into);
+        let position = j.position;
+        controls::give_sense(position, from, into);
     }
 }
 
 // The bytes that a job gives, from one on, as many as find room.
 pub fn give(j: Job, track: &[u16], from: u32, into: &mut [u8])
     requires { ⌜ Sighted (alone (now track)) j ⌝ }
-    ensures { λ _. ⌜ ((g : Shape) (v : List ℕ) → now (into .exit) ≡ filled (now (into .entry)) from (given (acts g (j .rule .act) (sight (alone (now (track .entry))) j v) .moves))) ⌝ }
+    ensures { λ _. ⌜ ((g : Shape) (v : List ℕ) → now (into .exit) ≡ filled (now (into .entry)) from (given (actTurn g (j .rule .act) (sight (alone (now (track .entry))) j v) .moves))) ⌝ }
 {
     let rule = j.rule;
     let act = rule.act;
@@ -94,8 +94,8 @@ pub fn give(j: Job, track: &[u16], from: u32, into: &mut [u8])
 
 // The cells that a job lays, if it does not end in Unit Check.
 pub fn lay(j: Job, sent: &[u8], track: &mut [u16])
-    requires { ⌜ Whole (now track) × Sighted (alone (now track)) j × Accepts j (now sent) (now track) ⌝ }
-    ensures { λ _. ⌜ ((g : Shape) → now (track .exit) ≡ laid (acts g (j .rule .act) (sight (alone (now (track .entry))) j (now (sent .entry))) .lays) (now (track .entry))) ⌝ }
+    requires { ⌜ WholeTrack (now track) × Sighted (alone (now track)) j × Accepts j (now sent) (now track) ⌝ }
+    ensures { λ _. ⌜ ((g : Shape) → now (track .exit) ≡ lay (actTurn g (j .rule .act) (sight (alone (now (track .entry))) j (now (sent .entry))) .lays) (now (track .entry))) ⌝ }
 {
     let rule = j.rule;
     let act = rule.act;

@@ -13,7 +13,7 @@ use Rattle.words.specs.declared.{Word.Word, Tested.Tested, Cause.Cause}
 use Rattle.words.specs.declared.Cause.the-variants.{Area}
 use Rattle.words.specs.declared.Tested.the-variants.{Obey, Jump, Bad}
 use Rattle.words.specs.Status.{Storable, statusFor, programCheck}
-use Rattle.words.specs.Words.{isTic, placed, flagsKnown, testedCommand, testedWord, tested, wordAt}
+use Rattle.words.specs.Words.{isTic, inPlace, flagsKnown, testedCommand, testedWord, tested, wordAt}
 
 -- a word to obey is one whose area lies in storage
 abbrev pub TestedIn : List ℕ → Tested → Type 0
@@ -37,7 +37,7 @@ command-in s w =
 pub tested-in : (s : List ℕ) (at : ℕ) (tic : Bool) → TestedIn s (tested s at tic)
 unfolding tested testedWord
 tested-in s at tic =
-    pick-all (TestedIn s) (placed s at)
+    pick-all (TestedIn s) (inPlace s at)
     (pick-all (TestedIn s) (isTic (wordAt s at)) (pick-all (TestedIn s) tic tt tt) (command-in s (wordAt s at)))
     tt
 

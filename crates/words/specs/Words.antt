@@ -51,8 +51,8 @@ isTic w = eqb (w .code % 16) 8
 -- ---- program checks
 
 -- on a multiple of 8, and inside storage
-abbrev pub placed : List ℕ → ℕ → Bool
-placed s at = both (eqb (at % wordBytes) 0) (leb (at + wordBytes) (length s))
+abbrev pub inPlace : List ℕ → ℕ → Bool
+inPlace s at = both (eqb (at % wordBytes) 0) (leb (at + wordBytes) (length s))
 
 -- no flags but 40 and 20
 abbrev pub flagsKnown : Word → Bool
@@ -78,7 +78,7 @@ testedWord s afterTic w =
 
 -- the tests of the word at an address of storage
 unfoldable pub tested : List ℕ → ℕ → Bool → Tested
-tested s at afterTic = pick (placed s at) (testedWord s afterTic (wordAt s at)) (Tested.Bad Cause.Place)
+tested s at afterTic = pick (inPlace s at) (testedWord s afterTic (wordAt s at)) (Tested.Bad Cause.Place)
 
 -- the word's area lies in storage, as its tests made sure
 pub record Reaches (s : List ℕ) (w : Word) : Type 0 where

@@ -12,33 +12,33 @@ use Rattle.cells.proofs.Tests.{first-picked, second-picked}
 use Rattle.house_check.specs.Area as House
 use Rattle.areas.specs.declared.{Area.Area, Counts.Counts}
 use Rattle.areas.specs.Areas.{keyArea, dataArea, recordCells, endBy, needed}
-use Rattle.areas.specs.Flags.{flagOfZero, flagAfter}
+use Rattle.areas.specs.Flags.{flagOfR0, flagAfter}
 use Rattle.areas.proofs.Laws.{home-flag}
-use Rattle.hunt.specs.Hunt.{Whole}
+use Rattle.hunt.specs.Hunt.{WholeTrack}
 use Rattle.room.specs.Room.{fits}
 use Rattle.room.proofs.Laws.{fits-ends}
 use Rattle.recording.specs.Recording.{areaWritten, wiped, Lies}
-use Rattle.laying.specs.Laying.{newCounts, newRecord, formatted, Ends}
-use Rattle.laying.proofs.Laws.{length-area, length-new}
-use Rattle.command.specs.Command.{named, seeing}
+use Rattle.format.specs.Format.{newCounts, newRecord, formatted, Ends}
+use Rattle.format.proofs.Laws.{length-area, length-new}
+use Rattle.command.specs.Command.{named, seenWith}
 use Rattle.table.specs.declared.{Names.Names, Write.Write, Act.Act}
-use Rattle.turn.specs.Turn.{alone, laid, isCheck}
+use Rattle.turn.specs.Turn.{alone, lay, isCheck}
 use Rattle.command.specs.declared.{Job.Job}
-use Rattle.command.specs.Command.{liesOn, areasOf, saw, writesOver, goesOver, allRecorded, Sight, areasRead, sight, laysR0, laysRecord, keySent, lays}
-use Rattle.writes.specs.Writes.{Writes, goneOver, updated, Over}
+use Rattle.command.specs.Command.{onHead, areasOf, seenOf, writesOver, goesOver, allRecorded, Sight, areasRead, sight, r0Turn, recordTurn, keySent, writeTurn}
+use Rattle.writes.specs.Writes.{DoesWrite, goneOver, updated, Over}
 use Rattle.writes.proofs.Laws.{home-lays, new-fits, new-lays, update-recorded, update-lays, recorded-over}
 
 -- ---- the home address
 
-pub home-formatted : (v t t₁ t₂ : List ℕ) → t₁ ≡ areaWritten t 0 v 5 → t₂ ≡ wiped t₁ 7 → t₂ ≡ formatted t 0 (House.laid (padded 5 v))
+pub home-formatted : (v t t₁ t₂ : List ℕ) → t₁ ≡ areaWritten t 0 v 5 → t₂ ≡ wiped t₁ 7 → t₂ ≡ formatted t 0 (House.cellsWithCheck (padded 5 v))
 unfolding formatted areaWritten
 home-formatted v t t₁ t₂ p q =
-    let long : 7 ≡ 0 + length (House.laid (padded 5 v)) = omega (arith, length-area 5 v) in
+    let long : 7 ≡ 0 + length (House.cellsWithCheck (padded 5 v)) = omega (arith, length-area 5 v) in
     q ∙ ap₂ wiped p long
 
 -- ---- a new record that has room
 
-module _ (flag : ℕ) (v t : List ℕ) (w : Whole t) (n : Counts) (p : n ≡ newCounts flag v) where
+module _ (flag : ℕ) (v t : List ℕ) (w : WholeTrack t) (n : Counts) (p : n ≡ newCounts flag v) where
   -- R0
   module _ (r : fits 7 (recordCells (newCounts flag v)) ≡ true) where
     pub r0-ends : Ends t 7 flag v n
@@ -97,16 +97,16 @@ module _ (t : List ℕ) (key : Bool) (c : ℕ) (n : Counts) (o : Over t key c n)
 
 -- ---- by the write
 
-module _ (t v : List ℕ) (j : Job) (w : Write) (s : Writes j w) where
+module _ (t v : List ℕ) (j : Job) (w : Write) (s : DoesWrite j w) where
   abbrev x : Sight
   x = sight (alone t) j v
 
   -- R0's flag is by the home address that was read
-  pub flag-r0 : w ≡ Write.R0 → (home flag : ℕ) → home ≡ getD t 0 0 % 256 → flag ≡ flagOfZero home → flag ≡ flagOfZero (getD (x .seen .home) 0 0)
-  unfolding sight saw areasRead areasOf liesOn seeing
+  pub flag-r0 : w ≡ Write.R0 → (home flag : ℕ) → home ≡ getD t 0 0 % 256 → flag ≡ flagOfR0 home → flag ≡ flagOfR0 (getD (x .seen .home) 0 0)
+  unfolding sight seenOf areasRead areasOf onHead seenWith
   flag-r0 e home flag p q =
-      q ∙ ap flagOfZero (p ∙ sym (home-flag t))
-      ∙ ap (λ (n : Names). flagOfZero (getD (saw (alone t) (areasOf n (alone t) (j .task .head) (j .task .place)) .home) 0 0)) (sym (s .home e))
+      q ∙ ap flagOfR0 (p ∙ sym (home-flag t))
+      ∙ ap (λ (n : Names). flagOfR0 (getD (seenOf (alone t) (areasOf n (alone t) (j .task .head) (j .task .place)) .home) 0 0)) (sym (s .home e))
 
   -- an update goes over the areas that it names
   pub recorded-is : (key : Bool) → w ≡ Write.Update key → allRecorded t (named (j .task .place) key true (j .counts)) ≡ x .recorded
@@ -114,57 +114,57 @@ module _ (t v : List ℕ) (j : Job) (w : Write) (s : Writes j w) where
   recorded-is key e = ap (λ (a : Act). allRecorded t (goesOver a (j .task .place) (j .counts))) (ap Act.Write (sym e) ∙ sym (s .act))
 
   -- what is laid when the ending is no Unit Check
-  module _ (wh : Whole t) (good : isCheck (lays w x .ending) ≡ false) where
-    good-by : (y : Write) → w ≡ y → isCheck (lays y x .ending) ≡ false
-    good-by y e = ap (λ (z : Write). isCheck (lays z x .ending)) (sym e) ∙ good
+  module _ (wh : WholeTrack t) (good : isCheck (writeTurn w x .ending) ≡ false) where
+    good-by : (y : Write) → w ≡ y → isCheck (writeTurn y x .ending) ≡ false
+    good-by y e = ap (λ (z : Write). isCheck (writeTurn z x .ending)) (sym e) ∙ good
 
-    laid-by : (y : Write) (u : List ℕ) → w ≡ y → u ≡ laid (lays y x .lays) t → u ≡ laid (lays w x .lays) t
-    laid-by y u e f = f ∙ ap (λ (z : Write). laid (lays z x .lays) t) (sym e)
+    laid-by : (y : Write) (u : List ℕ) → w ≡ y → u ≡ lay (writeTurn y x .lays) t → u ≡ lay (writeTurn w x .lays) t
+    laid-by y u e f = f ∙ ap (λ (z : Write). lay (writeTurn z x .lays) t) (sym e)
 
-    pub lays-home : (u : List ℕ) → w ≡ Write.HomeAddress → u ≡ formatted t 0 (House.laid (padded 5 v)) → u ≡ laid (lays w x .lays) t
-    unfolding sight lays
+    pub lays-home : (u : List ℕ) → w ≡ Write.HomeAddress → u ≡ formatted t 0 (House.cellsWithCheck (padded 5 v)) → u ≡ lay (writeTurn w x .lays) t
+    unfolding sight writeTurn
     lays-home u e f = laid-by Write.HomeAddress u e (f ∙ home-lays x t wh)
 
-    module _ (home flag : ℕ) (e : w ≡ Write.R0) (p : home ≡ getD t 0 0 % 256) (q : flag ≡ flagOfZero home) where
-      r0-good : isCheck (laysR0 x flag .ending) ≡ false
-      unfolding lays
-      r0-good = ap (λ (i : ℕ). isCheck (laysR0 x i .ending)) (flag-r0 e home flag p q) ∙ good-by Write.R0 e
+    module _ (home flag : ℕ) (e : w ≡ Write.R0) (p : home ≡ getD t 0 0 % 256) (q : flag ≡ flagOfR0 home) where
+      r0-good : isCheck (r0Turn x flag .ending) ≡ false
+      unfolding writeTurn
+      r0-good = ap (λ (i : ℕ). isCheck (r0Turn x i .ending)) (flag-r0 e home flag p q) ∙ good-by Write.R0 e
 
       pub r0-room : fits 7 (recordCells (newCounts flag v)) ≡ true
-      unfolding sight laysR0
+      unfolding sight r0Turn
       r0-room = new-fits x t wh _ _ _ _ _ r0-good
 
-      pub lays-r0 : (u : List ℕ) → u ≡ formatted t 7 (newRecord flag v) → u ≡ laid (lays w x .lays) t
-      unfolding sight lays laysR0
+      pub lays-r0 : (u : List ℕ) → u ≡ formatted t 7 (newRecord flag v) → u ≡ lay (writeTurn w x .lays) t
+      unfolding sight writeTurn r0Turn
       lays-r0 u f =
           laid-by Write.R0 u e
-          (f ∙ new-lays x t wh _ _ _ _ _ (sym (length-new flag v)) r0-room ∙ ap (λ (i : ℕ). laid (laysR0 x i .lays) t) (flag-r0 e home flag p q))
+          (f ∙ new-lays x t wh _ _ _ _ _ (sym (length-new flag v)) r0-room ∙ ap (λ (i : ℕ). lay (r0Turn x i .lays) t) (flag-r0 e home flag p q))
 
     module _ (at flag : ℕ) (e : w ≡ Write.CountKeyData) (p : at ≡ endBy (j .task .place) (j .counts)) (q : flag ≡ flagAfter (j .counts .flag)) where
-      record-good : isCheck (laysRecord x at flag .ending) ≡ false
-      unfolding sight lays
-      record-good = ap₂ (λ (i k : ℕ). isCheck (laysRecord x i k .ending)) p q ∙ good-by Write.CountKeyData e
+      record-good : isCheck (recordTurn x at flag .ending) ≡ false
+      unfolding sight writeTurn
+      record-good = ap₂ (λ (i k : ℕ). isCheck (recordTurn x i k .ending)) p q ∙ good-by Write.CountKeyData e
 
       pub record-room : fits at (needed (newCounts flag v)) ≡ true
-      unfolding sight laysRecord
+      unfolding sight recordTurn
       record-room = new-fits x t wh _ _ _ _ _ record-good
 
-      pub lays-record : (u : List ℕ) → u ≡ formatted t at (marker ∷ newRecord flag v) → u ≡ laid (lays w x .lays) t
-      unfolding sight lays laysRecord needed
+      pub lays-record : (u : List ℕ) → u ≡ formatted t at (marker ∷ newRecord flag v) → u ≡ lay (writeTurn w x .lays) t
+      unfolding sight writeTurn recordTurn needed
       lays-record u f =
           let long : needed (newCounts flag v) ≡ length (marker ∷ newRecord flag v) = omega (arith, length-new flag v) in
           laid-by Write.CountKeyData u e
           (f ∙ new-lays x t wh _ _ _ _ _ long record-room
-          ∙ ap₂ (λ (i k : ℕ). laid (laysRecord x i k .lays) t) p q)
+          ∙ ap₂ (λ (i k : ℕ). lay (recordTurn x i k .lays) t) p q)
 
     module _ (key : Bool) (e : w ≡ Write.Update key) where
       seen-recorded : x .recorded ≡ true
-      unfolding sight lays
+      unfolding sight writeTurn
       seen-recorded = update-recorded x key _ _ (good-by (Write.Update key) e)
 
       pub update-over : Over t key (j .task .place) (j .counts)
       update-over = recorded-over t key _ _ (recorded-is key e ∙ seen-recorded)
 
-      pub lays-update : (u : List ℕ) → u ≡ updated t key (j .task .place) (j .counts) v → u ≡ laid (lays w x .lays) t
-      unfolding sight lays
+      pub lays-update : (u : List ℕ) → u ≡ updated t key (j .task .place) (j .counts) v → u ≡ lay (writeTurn w x .lays) t
+      unfolding sight writeTurn
       lays-update u f = laid-by (Write.Update key) u e (f ∙ update-lays x key _ _ t seen-recorded)

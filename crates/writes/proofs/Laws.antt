@@ -18,21 +18,21 @@ use Rattle.rows.specs.declared.Row.the-variants.{Unreadable, NoRoom}
 use Rattle.house_check.specs.Area as House
 use Rattle.areas.specs.declared.{Area.Area, Counts.Counts}
 use Rattle.areas.specs.Areas.{homeBytes, keyArea, dataArea}
-use Rattle.hunt.specs.Hunt.{Whole}
+use Rattle.hunt.specs.Hunt.{WholeTrack}
 use Rattle.room.specs.Room.{fits}
 use Rattle.room.proofs.Laws.{fits-ends}
 use Rattle.recording.specs.Recording.{areaWritten}
 use Rattle.command.specs.Command.{areaIf, named}
-use Rattle.laying.specs.Laying.{formatted, recorded}
-use Rattle.laying.proofs.Laws.{formatted-is, length-area, recorded-lies}
-use Rattle.turn.specs.Turn.{Piece, Turn, laid, isCheck, checks}
+use Rattle.format.specs.Format.{formatted, recorded}
+use Rattle.format.proofs.Laws.{formatted-is, length-area, recorded-lies}
+use Rattle.turn.specs.Turn.{Piece, Turn, lay, isCheck, checkTurn}
 use Rattle.command.specs.declared.{Task.Task}
-use Rattle.command.specs.Command.{Sight, allRecorded, fails, ends, endsAt, piece, toEnd, laysHome, laysNew, over, keySent, updates}
+use Rattle.command.specs.Command.{Sight, allRecorded, failTurn, endTurn, endTurnAt, piece, toEnd, homeTurn, newTurn, overPiece, keySent, updateTurn}
 use Rattle.writes.specs.Writes.{goneOver, updated, Over}
 
 -- ---- gaps to the track's end
 
-pub to-end : (t : List ℕ) (at : ℕ) (x : List ℕ) → Whole t → at + length x ≤ trackCells → overlay t at (toEnd at x) ≡ formatted t at x
+pub to-end : (t : List ℕ) (at : ℕ) (x : List ℕ) → WholeTrack t → at + length x ≤ trackCells → overlay t at (toEnd at x) ≡ formatted t at x
 unfolding overlay toEnd
 to-end t at x w h =
     let rest : List ℕ = replicate (4096 - (at + length x)) 0 in
@@ -47,56 +47,56 @@ to-end t at x w h =
 
 -- ---- what is laid, by the model's own choices
 
-no-check : (b : Bool) (y : Turn) (x : Sight) (row : Row) → isCheck (pick b y (fails x row) .ending) ≡ false → b ≡ true
-unfolding fails checks isCheck
+no-check : (b : Bool) (y : Turn) (x : Sight) (row : Row) → isCheck (pick b y (failTurn x row) .ending) ≡ false → b ≡ true
+unfolding failTurn checkTurn isCheck
 no-check true y x row e = refl
 no-check false y x row e = absurd (false≢true (sym e))
 
-module _ (x : Sight) (t : List ℕ) (w : Whole t) where
-  pub home-lays : formatted t 0 (House.laid (padded homeBytes (x .sent))) ≡ laid (laysHome x .lays) t
-  unfolding laysHome ends endsAt laid piece
-  home-lays = sym (to-end t 0 (House.laid (padded homeBytes (x .sent))) w (omega (arith, length-area homeBytes (x .sent))))
+module _ (x : Sight) (t : List ℕ) (w : WholeTrack t) where
+  pub home-lays : formatted t 0 (House.cellsWithCheck (padded homeBytes (x .sent))) ≡ lay (homeTurn x .lays) t
+  unfolding homeTurn endTurn endTurnAt lay piece
+  home-lays = sym (to-end t 0 (House.cellsWithCheck (padded homeBytes (x .sent))) w (omega (arith, length-area homeBytes (x .sent))))
 
   -- a new record
   module _ (k : Task) (first : ℕ) (n : Counts) (need : ℕ) (v : List ℕ) where
-    pub new-fits : isCheck (laysNew x k first n need v .ending) ≡ false → fits first need ≡ true
-    unfolding laysNew
+    pub new-fits : isCheck (newTurn x k first n need v .ending) ≡ false → fits first need ≡ true
+    unfolding newTurn
     new-fits e = no-check (fits first need) _ x NoRoom e
 
-    pub new-lays : need ≡ length v → fits first need ≡ true → formatted t first v ≡ laid (laysNew x k first n need v .lays) t
-    unfolding laysNew endsAt laid piece
+    pub new-lays : need ≡ length v → fits first need ≡ true → formatted t first v ≡ lay (newTurn x k first n need v .lays) t
+    unfolding newTurn endTurnAt lay piece
     new-lays l e =
-        sym (ap (λ (y : Turn). laid (y .lays) t) (first-picked _ _ _ e) ∙ to-end t first v w (omega (arith, l, fits-ends first need e)))
+        sym (ap (λ (y : Turn). lay (y .lays) t) (first-picked _ _ _ e) ∙ to-end t first v w (omega (arith, l, fits-ends first need e)))
 
 -- ---- an update
 
-laid-two : (l m : List Piece) (t : List ℕ) → laid (l ++ m) t ≡ laid m (laid l t)
-unfolding laid
+laid-two : (l m : List Piece) (t : List ℕ) → lay (l ++ m) t ≡ lay m (lay l t)
+unfolding lay
 laid-two [] m t = refl
 laid-two (p ∷ l) m t = laid-two l m (overlay t (p .first) (p .cells))
 
 module _ (x : Sight) where
-  over-laid : (a : Area) (from n : ℕ) (t : List ℕ) → goneOver t (a .first) (x .sent) from n ≡ laid (over x a from n) t
-  unfolding goneOver areaWritten over laid piece
+  over-laid : (a : Area) (from n : ℕ) (t : List ℕ) → goneOver t (a .first) (x .sent) from n ≡ lay (overPiece x a from n) t
+  unfolding goneOver areaWritten overPiece lay piece
   over-laid a from n t = go (ltb 0 n)
     where
-      go : (b : Bool) → pick b (overlay t (a .first) (House.laid (padded n (part (x .sent) from n)))) t
-          ≡ laid (pick b (piece x (a .first) (House.laid (padded n (part (x .sent) from n))) ∷ []) []) t
+      go : (b : Bool) → pick b (overlay t (a .first) (House.cellsWithCheck (padded n (part (x .sent) from n)))) t
+          ≡ lay (pick b (piece x (a .first) (House.cellsWithCheck (padded n (part (x .sent) from n))) ∷ []) []) t
       go true = refl
       go false = refl
 
   module _ (key : Bool) (c : ℕ) (n : Counts) where
-    pub update-recorded : isCheck (updates key x c n .ending) ≡ false → x .recorded ≡ true
-    unfolding updates
+    pub update-recorded : isCheck (updateTurn key x c n .ending) ≡ false → x .recorded ≡ true
+    unfolding updateTurn
     update-recorded e = no-check (x .recorded) _ x Unreadable e
 
-    pub update-lays : (t : List ℕ) → x .recorded ≡ true → updated t key c n (x .sent) ≡ laid (updates key x c n .lays) t
-    unfolding updates updated ends endsAt
+    pub update-lays : (t : List ℕ) → x .recorded ≡ true → updated t key c n (x .sent) ≡ lay (updateTurn key x c n .lays) t
+    unfolding updateTurn updated endTurn endTurnAt
     update-lays t e =
         ap (λ (u : List ℕ). goneOver u (dataArea c n .first) (x .sent) (keySent key n) (n .dl)) (over-laid (keyArea c n) 0 (keySent key n) t)
-        ∙ over-laid (dataArea c n) (keySent key n) (n .dl) (laid (over x (keyArea c n) 0 (keySent key n)) t)
-        ∙ sym (laid-two (over x (keyArea c n) 0 (keySent key n)) (over x (dataArea c n) (keySent key n) (n .dl)) t)
-        ∙ sym (ap (λ (y : Turn). laid (y .lays) t) (first-picked _ _ _ e))
+        ∙ over-laid (dataArea c n) (keySent key n) (n .dl) (lay (overPiece x (keyArea c n) 0 (keySent key n)) t)
+        ∙ sym (laid-two (overPiece x (keyArea c n) 0 (keySent key n)) (overPiece x (dataArea c n) (keySent key n) (n .dl)) t)
+        ∙ sym (ap (λ (y : Turn). lay (y .lays) t) (first-picked _ _ _ e))
 
 -- ---- the areas that an update goes over lie on the track
 

@@ -1,5 +1,5 @@
 -- Laws of the writes.
 pub mod Laws
 pub mod Calls
-pub mod Told
+pub mod Report
 pub mod Rows

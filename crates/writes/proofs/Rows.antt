@@ -7,7 +7,7 @@ use Rattle.cells.proofs.Tests.{pick-all}
 use Rattle.table.specs.declared.{Names.Names, Write.Write, Act.Act, Rule.Rule}
 use Rattle.table.specs.Table.{Entry, controls, searches, reads, writes, find, ruleOf}
 use Rattle.command.specs.declared.{Job.Job}
-use Rattle.writes.specs.Writes.{Writes}
+use Rattle.writes.specs.Writes.{DoesWrite}
 
 abbrev WriteNames : Write → Names → Type 0
 WriteNames Write.HomeAddress n = Unit {0}
@@ -40,7 +40,7 @@ rows c =
     (find-all c searches _ (tt, (tt, (tt, (tt, (tt, (tt, (tt, tt)))))))
     (find-all c reads _ (tt, (tt, (tt, (tt, (tt, (tt, tt)))))) (find-all c writes _ (tt, (refl, (tt, (tt, (tt, tt))))) tt)))
 
-pub writes-by : (j : Job) (w : Write) → j .rule ≡ ruleOf (j .code) → j .rule .act ≡ Act.Write w → Writes j w
+pub writes-by : (j : Job) (w : Write) → j .rule ≡ ruleOf (j .code) → j .rule .act ≡ Act.Write w → DoesWrite j w
 writes-by j w p e = record {
   act = e;
   home = λ q.

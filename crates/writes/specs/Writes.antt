@@ -7,22 +7,22 @@ use lib.Dec.{ltb}
 use Rattle.cells.specs.Choice.{pick}
 use Rattle.cells.specs.Bytes.{part}
 use Rattle.areas.specs.declared.{Counts.Counts}
-use Rattle.areas.specs.Areas.{zeroFirst, keyArea, dataArea, recordCells, needed}
+use Rattle.areas.specs.Areas.{r0First, keyArea, dataArea, recordCells, needed}
 use Rattle.rows.specs.declared.{Row.Row}
 use Rattle.hunt.specs.declared.{Spot.Spot}
 use Rattle.room.specs.Room.{fits}
 use Rattle.recording.specs.Recording.{areaWritten, Lies}
 use Rattle.held.specs.declared.{Selection.Selection}
-use Rattle.turn.specs.declared.{Ending.Ending, Moving.Moving, Told.Told}
+use Rattle.turn.specs.declared.{Ending.Ending, Transfer.Transfer, Report.Report}
 use Rattle.command.specs.Command.{named}
-use Rattle.laying.specs.Laying.{newCounts}
+use Rattle.format.specs.Format.{newCounts}
 use Rattle.table.specs.declared.{Names.Names, Write.Write, Act.Act}
 use Rattle.command.specs.declared.{Task.Task, Job.Job}
 use Rattle.command.specs.Command.{task, allRecorded, endingOf, recordTakes, keySent}
-use Rattle.ending.specs.Ending.{endedAt, failedAt}
+use Rattle.ending.specs.Ending.{reportAt, checkReport}
 
 -- the job's row has this write, and Write R0 has read the home address
-pub record Writes (j : Job) (w : Write) : Type 0 where
+pub record DoesWrite (j : Job) (w : Write) : Type 0 where
   pub act : j .rule .act ≡ Act.Write w
   pub home : w ≡ Write.R0 → j .rule .names ≡ Names.HomeAddress
 
@@ -42,23 +42,23 @@ pub record Over (t : List ℕ) (key : Bool) (c : ℕ) (n : Counts) : Type 0 wher
 -- ---- what the channel is told of a write, without the cells that it lays
 
 -- of a new record
-unfoldable pub newTold : Job → Task → ℕ → Counts → ℕ → List ℕ → Told
-newTold j k first n need v =
-    pick (fits first need) (endedAt j k Ending.Normal (Moving.Takes (recordTakes v n)) false) (failedAt (j .stands) (j .orders) Row.NoRoom)
+unfoldable pub newReport : Job → Task → ℕ → Counts → ℕ → List ℕ → Report
+newReport j k first n need v =
+    pick (fits first need) (reportAt j k Ending.Normal (Transfer.Takes (recordTakes v n)) false) (checkReport (j .position) (j .orders) Row.NoRoom)
 
-unfoldable pub r0Told : Job → ℕ → List ℕ → Told
-r0Told j flag v = newTold j (j .task) zeroFirst (newCounts flag v) (recordCells (newCounts flag v)) v
+unfoldable pub r0Report : Job → ℕ → List ℕ → Report
+r0Report j flag v = newReport j (j .task) r0First (newCounts flag v) (recordCells (newCounts flag v)) v
 
-unfoldable pub recordTold : Job → ℕ → ℕ → List ℕ → Told
-recordTold j at flag v =
-    newTold j (task (j .task .head) (at + 1) (Selection.On (Spot.Marker at)) 0) at (newCounts flag v) (needed (newCounts flag v)) v
+unfoldable pub recordReport : Job → ℕ → ℕ → List ℕ → Report
+recordReport j at flag v =
+    newReport j (task (j .task .head) (at + 1) (Selection.On (Spot.Marker at)) 0) at (newCounts flag v) (needed (newCounts flag v)) v
 
 -- of an update, by whether it goes over byte cells
-unfoldable pub overBy : Bool → Job → Bool → Told
-overBy key j bytes =
+unfoldable pub overReportBy : Bool → Job → Bool → Report
+overReportBy key j bytes =
     pick bytes
-    (endedAt j (j .task) (endingOf j) (Moving.Takes (keySent key (j .counts) + j .counts .dl)) false)
-    (failedAt (j .stands) (j .orders) Row.Unreadable)
+    (reportAt j (j .task) (endingOf j) (Transfer.Takes (keySent key (j .counts) + j .counts .dl)) false)
+    (checkReport (j .position) (j .orders) Row.Unreadable)
 
-unfoldable pub overTold : Bool → Job → List ℕ → Told
-overTold key j t = overBy key j (allRecorded t (named (j .task .place) key true (j .counts)))
+unfoldable pub overReport : Bool → Job → List ℕ → Report
+overReport key j t = overReportBy key j (allRecorded t (named (j .task .place) key true (j .counts)))

@@ -8,8 +8,8 @@ use hunt::Spot;
 use rows::Row;
 use table::Write;
 use turn::Ending;
-use turn::Moving;
-use turn::Told;
+use turn::Report;
+use turn::Transfer;
 ghost use mathlib.Core.Path.{_≡_};
 ghost use mathlib.Core.Bool.{true, false};
 ghost use mathlib.Core.List.{_∷_};
@@ -17,15 +17,15 @@ ghost use Prim.Native.Nat.{_<_};
 ghost use Rattle.cells.specs.Bytes.{padded};
 ghost use Rattle.cells.specs.Cells.{marker};
 ghost use Rattle.house_check.specs.Area as House;
-ghost use Rattle.areas.specs.Areas.{homeBytes, zeroFirst, recordCells, needed};
-ghost use Rattle.hunt.specs.Hunt.{Whole};
+ghost use Rattle.areas.specs.Areas.{homeBytes, r0First, recordCells, needed};
+ghost use Rattle.hunt.specs.Hunt.{WholeTrack};
 ghost use Rattle.room.specs.Room.{fits};
 ghost use Rattle.recording.specs.Recording.{Lies};
-ghost use Rattle.laying.specs.Laying.{newCounts, newRecord, formatted};
-ghost use Rattle.turn.specs.Turn.{alone, laid, isCheck, toldOf};
-ghost use Rattle.command.specs.Command.{areaIf, named, allRecorded, sight, recordTakes, keySent, lays};
-ghost use Rattle.ending.specs.Ending.{failedAt};
-ghost use Rattle.writes.specs.Writes.{Writes, goneOver, updated, Over, r0Told, recordTold, overTold};
+ghost use Rattle.format.specs.Format.{newCounts, newRecord, formatted};
+ghost use Rattle.turn.specs.Turn.{alone, lay, isCheck, reportOf};
+ghost use Rattle.command.specs.Command.{areaIf, named, allRecorded, sight, recordTakes, keySent, writeTurn};
+ghost use Rattle.ending.specs.Ending.{checkReport};
+ghost use Rattle.writes.specs.Writes.{DoesWrite, goneOver, updated, Over, r0Report, recordReport, overReport};
 
 const HOME_BYTES: usize = 5;
 // The cell behind the home address, where R0 begins.
@@ -51,31 +51,31 @@ fn record_takes(sent: &[u8], n: Counts) -> u32
 }
 
 // Unit Check for a row of the table.
-fn fail(j: Job, row: Row) -> Told
-    ensures { λ r. ⌜ r ≡ failedAt (j .stands) (j .orders) row ⌝ }
+fn fail(j: Job, row: Row) -> Report
+    ensures { λ r. ⌜ r ≡ checkReport (j .position) (j .orders) row ⌝ }
 {
-    let stands = j.stands;
+    let position = j.position;
     let orders = j.orders;
-    ending::failed(stands, orders, row)
+    ending::failed(position, orders, row)
 }
 
 // Write R0.
-fn write_r0(flag: u8, j: Job, sent: &[u8]) -> Told
-    ensures { λ r. ⌜ r ≡ r0Told j flag (now (sent .entry)) ⌝ }
+fn write_r0(flag: u8, j: Job, sent: &[u8]) -> Report
+    ensures { λ r. ⌜ r ≡ r0Report j flag (now (sent .entry)) ⌝ }
 {
-    let n = laying::new_counts(flag, sent);
+    let n = format::new_counts(flag, sent);
     if !room::has_room(R0_FIRST as u32, areas::record_cells(n)) {
         return fail(j, Row::NoRoom);
     }
-    let moving = Moving::Takes(record_takes(sent, n));
-    ending::ended(j, Ending::Normal, moving, false)
+    let transfer = Transfer::Takes(record_takes(sent, n));
+    ending::ended(j, Ending::Normal, transfer, false)
 }
 
 // Write Count Key Data, from a cell on, which can lie far past the track.
-fn write_after(at: u32, flag: u8, j: Job, sent: &[u8]) -> Told
-    ensures { λ r. ⌜ r ≡ recordTold j at flag (now (sent .entry)) ⌝ }
+fn write_after(at: u32, flag: u8, j: Job, sent: &[u8]) -> Report
+    ensures { λ r. ⌜ r ≡ recordReport j at flag (now (sent .entry)) ⌝ }
 {
-    let n = laying::new_counts(flag, sent);
+    let n = format::new_counts(flag, sent);
     if !room::has_room(at, areas::cells_needed(n)) {
         return fail(j, Row::NoRoom);
     }
@@ -87,15 +87,15 @@ fn write_after(at: u32, flag: u8, j: Job, sent: &[u8]) -> Told
         selection: Selection::On(Spot::Marker(p)),
         tally: 0,
     };
-    let moving = Moving::Takes(record_takes(sent, n));
-    ending::ended_at(j, task, Ending::Normal, moving, false)
+    let transfer = Transfer::Takes(record_takes(sent, n));
+    ending::ended_at(j, task, Ending::Normal, transfer, false)
 }
 
 // Whether an area that is there is all recorded bytes.
 fn is_recorded_if(track: &[u16], there: bool, a: Area) -> bool
     ensures { λ r. ⌜ r ≡ allRecorded (now (track .entry)) (areaIf there a) ⌝ }
 {
-    !there || laying::is_recorded(track, a)
+    !there || format::is_recorded(track, a)
 }
 
 // Whether the areas that an update goes over are.
@@ -108,33 +108,33 @@ fn are_recorded(track: &[u16], key: bool, c: u16, n: Counts) -> bool
 }
 
 // Write Data, and Write Key and Data.
-fn write_over(key: bool, j: Job, track: &[u16]) -> Told
-    ensures { λ r. ⌜ r ≡ overTold key j (now (track .entry)) ⌝ }
+fn write_over(key: bool, j: Job, track: &[u16]) -> Report
+    ensures { λ r. ⌜ r ≡ overReport key j (now (track .entry)) ⌝ }
 {
     let n = j.counts;
     if !are_recorded(track, key, j.task.place, n) {
         return fail(j, Row::Unreadable);
     }
-    let moving = Moving::Takes(key_sent(key, n) as u32 + n.dl as u32);
-    ending::ended(j, ending::ending_of(j), moving, false)
+    let transfer = Transfer::Takes(key_sent(key, n) as u32 + n.dl as u32);
+    ending::ended(j, ending::ending_of(j), transfer, false)
 }
 
 // How a write ends, the bytes that it takes, and what is held then. It lays nothing.
-pub fn write(w: Write, j: Job, sent: &[u8], track: &[u16]) -> Told
-    requires { ⌜ Writes j w ⌝ }
-    ensures { λ r. ⌜ r ≡ toldOf (lays w (sight (alone (now (track .entry))) j (now (sent .entry)))) ⌝ }
+pub fn write(w: Write, j: Job, sent: &[u8], track: &[u16]) -> Report
+    requires { ⌜ DoesWrite j w ⌝ }
+    ensures { λ r. ⌜ r ≡ reportOf (writeTurn w (sight (alone (now (track .entry))) j (now (sent .entry)))) ⌝ }
 {
     let n = j.counts;
     match w {
         Write::HomeAddress => ending::ended(
             j,
             Ending::Normal,
-            Moving::Takes(HOME_BYTES as u32),
+            Transfer::Takes(HOME_BYTES as u32),
             false,
         ),
         Write::R0 => {
             let home = cells::low_at(track, 0);
-            write_r0(areas::flag_of_zero(home), j, sent)
+            write_r0(areas::flag_of_r0(home), j, sent)
         }
         Write::CountKeyData => write_after(
             areas::end_by(j.task.place, n),
@@ -148,8 +148,8 @@ pub fn write(w: Write, j: Job, sent: &[u8], track: &[u16]) -> Told
 
 // Write HA.
 fn lay_home(sent: &[u8], track: &mut [u16])
-    requires { ⌜ Whole (now track) ⌝ }
-    ensures { λ _. ⌜ now (track .exit) ≡ formatted (now (track .entry)) 0 (House.laid (padded homeBytes (now (sent .entry)))) ⌝ }
+    requires { ⌜ WholeTrack (now track) ⌝ }
+    ensures { λ _. ⌜ now (track .exit) ≡ formatted (now (track .entry)) 0 (House.cellsWithCheck (padded homeBytes (now (sent .entry)))) ⌝ }
 {
     recording::write_area(track, 0, sent, HOME_BYTES);
     recording::wipe(track, R0_FIRST as usize);
@@ -157,21 +157,21 @@ fn lay_home(sent: &[u8], track: &mut [u16])
 
 // Write R0, where it has room.
 fn lay_r0(flag: u8, sent: &[u8], track: &mut [u16])
-    requires { ⌜ Whole (now track) × (fits zeroFirst (recordCells (newCounts flag (now sent))) ≡ true) ⌝ }
-    ensures { λ _. ⌜ now (track .exit) ≡ formatted (now (track .entry)) zeroFirst (newRecord flag (now (sent .entry))) ⌝ }
+    requires { ⌜ WholeTrack (now track) × (fits r0First (recordCells (newCounts flag (now sent))) ≡ true) ⌝ }
+    ensures { λ _. ⌜ now (track .exit) ≡ formatted (now (track .entry)) r0First (newRecord flag (now (sent .entry))) ⌝ }
 {
-    let n = laying::new_counts(flag, sent);
-    laying::lay_record(track, R0_FIRST, flag, sent, n);
+    let n = format::new_counts(flag, sent);
+    format::lay_record(track, R0_FIRST, flag, sent, n);
     recording::wipe(track, R0_FIRST as usize + areas::record_cells(n) as usize);
 }
 
 // Write Count Key Data, from a cell on where it has room.
 fn lay_after(at: u32, flag: u8, sent: &[u8], track: &mut [u16])
-    requires { ⌜ Whole (now track) × (fits at (needed (newCounts flag (now sent))) ≡ true) ⌝ }
+    requires { ⌜ WholeTrack (now track) × (fits at (needed (newCounts flag (now sent))) ≡ true) ⌝ }
     ensures { λ _. ⌜ now (track .exit) ≡ formatted (now (track .entry)) at (marker ∷ newRecord flag (now (sent .entry))) ⌝ }
 {
-    let n = laying::new_counts(flag, sent);
-    laying::lay_marked(track, at as u16, flag, sent, n);
+    let n = format::new_counts(flag, sent);
+    format::lay_marked(track, at as u16, flag, sent, n);
     recording::wipe(track, at as usize + areas::cells_needed(n) as usize);
 }
 
@@ -181,7 +181,7 @@ fn go_over(first: u32, from: u16, n: u16, sent: &[u8], track: &mut [u16])
     ensures { λ _. ⌜ now (track .exit) ≡ goneOver (now (track .entry)) first (now (sent .entry)) from n ⌝ }
 {
     if 0 < n {
-        laying::lay_area(track, first as usize, n as usize, sent, from, n);
+        format::lay_area(track, first as usize, n as usize, sent, from, n);
     }
 }
 
@@ -197,8 +197,8 @@ fn update(key: bool, c: u16, n: Counts, sent: &[u8], track: &mut [u16])
 
 // What a write lays that ends in no Unit Check.
 pub fn lay(w: Write, j: Job, sent: &[u8], track: &mut [u16])
-    requires { ⌜ Whole (now track) × Writes j w × (isCheck (lays w (sight (alone (now track)) j (now sent)) .ending) ≡ false) ⌝ }
-    ensures { λ _. ⌜ now (track .exit) ≡ laid (lays w (sight (alone (now (track .entry))) j (now (sent .entry))) .lays) (now (track .entry)) ⌝ }
+    requires { ⌜ WholeTrack (now track) × DoesWrite j w × (isCheck (writeTurn w (sight (alone (now track)) j (now sent)) .ending) ≡ false) ⌝ }
+    ensures { λ _. ⌜ now (track .exit) ≡ lay (writeTurn w (sight (alone (now (track .entry))) j (now (sent .entry))) .lays) (now (track .entry)) ⌝ }
 {
     let c = j.task.place;
     let n = j.counts;
@@ -206,7 +206,7 @@ pub fn lay(w: Write, j: Job, sent: &[u8], track: &mut [u16])
         Write::HomeAddress => lay_home(sent, track),
         Write::R0 => {
             let home = cells::low_at(track, 0);
-            lay_r0(areas::flag_of_zero(home), sent, track)
+            lay_r0(areas::flag_of_r0(home), sent, track)
         }
         Write::CountKeyData => lay_after(
             areas::end_by(c, n),

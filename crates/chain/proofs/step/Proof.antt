@@ -1,7 +1,7 @@
 -- `chain::step` meets its contract: what the word's tests say decides which call, and each leaves what the model has there.
 -- Assumes nothing.
 use mathlib.Core.Path.{refl}
-use Rattle.chain.specs.Step.{takes}
+use Rattle.chain.specs.Step.{stepBy}
 use Rattle.chain.proofs.Fits.{key-in}
 use Rattle.chain.proofs.Laws.{taken, word-reaches, world-eq}
 use borrow.Author.Needs.{needs}
@@ -40,7 +40,7 @@ same-length-2 : tie.Need-same-length-2
 same-length-2 c = search needs
 
 returns : tie.Need-returns
-unfolding takes
+unfolding stepBy
 returns c =
     let b = c .before .before .before .before in
     let k = b .before .before .before .before in
@@ -50,7 +50,7 @@ same-length-3 : tie.Need-same-length-3
 same-length-3 c = search needs
 
 returns-2 : tie.Need-returns-2
-unfolding takes
+unfolding stepBy
 returns-2 c =
     let k = c .before .before in
     taken _ _ _ _ _ (k .before .before .test .ensures) (k .a .given .1) (world-eq (c .jump .ensures) refl refl)
@@ -59,7 +59,7 @@ same-length-4 : tie.Need-same-length-4
 same-length-4 c = search needs
 
 returns-3 : tie.Need-returns-3
-unfolding takes
+unfolding stepBy
 returns-3 c =
     let b = c .before .before in
     let k = b .before .before .before in

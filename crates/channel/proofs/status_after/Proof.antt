@@ -7,7 +7,7 @@ use Rattle.channel.proofs.status_after.Statement.{statement}
 use Rattle.channel.proofs.status_after.Tie as tie
 
 sub-left : tie.Need-sub-left
-sub-left c = rw (c .before .moved .ensures) (moved-within _ _)
+sub-left c = rw (c .before .bytes-moved .ensures) (moved-within _ _)
 
 returns : tie.Need-returns
 unfolding statusAfter

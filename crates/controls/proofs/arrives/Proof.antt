@@ -1,17 +1,17 @@
 -- Each arm knows what the address came to, and makes of it what the model has there.
-use Rattle.turn.specs.Turn.{movingOf, toldOf}
-use Rattle.command.specs.Command.{sight, arrives}
-use Rattle.turn.specs.Turn.{sought, standing}
+use Rattle.turn.specs.Turn.{transferOf, reportOf}
+use Rattle.command.specs.Command.{sight, arrivalTurn}
+use Rattle.turn.specs.Turn.{positionSought, positionAt}
 use borrow.Author.Needs.{needs}
 use Rattle.controls.proofs.arrives.Statement.{statement}
 use Rattle.controls.proofs.arrives.Tie as tie
 
 returns : tie.Need-returns
-unfolding toldOf movingOf arrives sight sought standing
+unfolding reportOf transferOf arrivalTurn sight positionSought positionAt
 returns c t v = rw (c .before .before .before .x .given .1, c .orders-after .ensures)
 
 returns-2 : tie.Need-returns-2
-unfolding arrives
+unfolding arrivalTurn
 returns-2 c t v = rw (c .before .before .x2 .given .1) (c .fails .ensures t v)
 
 pub arrives-spec : {M : Type 1} → statement M

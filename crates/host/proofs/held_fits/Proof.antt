@@ -8,11 +8,11 @@ use borrow.Author.Needs.{needs}
 use Rattle.host.proofs.held_fits.Statement.{statement}
 use Rattle.host.proofs.held_fits.Tie as tie
 
-stands-fit-requires : tie.Need-stands-fit-requires
-stands-fit-requires c κs = search needs
+position-fits-requires : tie.Need-position-fits-requires
+position-fits-requires c κs = search needs
 
 returns : tie.Need-returns
-returns c = bad-stands _ _ _ _ (c .before .stands-fit .ensures) (not-true _ (c .if1 .taken))
+returns c = bad-stands _ _ _ _ (c .before .position-fits .ensures) (not-true _ (c .if1 .taken))
 
 channel-fits-requires : tie.Need-channel-fits-requires
 channel-fits-requires c κs = search needs
@@ -20,14 +20,14 @@ channel-fits-requires c κs = search needs
 returns-2 : tie.Need-returns-2
 returns-2 c =
     let b = c .before .before .before in
-    bad-channel _ _ _ _ (b .before .stands-fit .ensures) (not-false _ (b .if1 .left)) _ (c .before .channel-fits .ensures) (not-true _ (c .if2 .taken))
+    bad-channel _ _ _ _ (b .before .position-fits .ensures) (not-false _ (b .if1 .left)) _ (c .before .channel-fits .ensures) (not-true _ (c .if2 .taken))
 
 start-of-requires : tie.Need-start-of-requires
 start-of-requires c κs =
     let k = c .before .before .before in
     let b = k .before .before .before in
     let s = b .before .before .before .before in
-    (s .pre .cylinders, s .pre .heads, stands-on _ _ (sym (b .before .stands-fit .ensures) ∙ not-false _ (b .if1 .left)))
+    (s .pre .cylinders, s .pre .heads, stands-on _ _ (sym (b .before .position-fits .ensures) ∙ not-false _ (b .if1 .left)))
 
 add-orders-fit : tie.Need-add-orders-fit
 add-orders-fit c = search needs
@@ -51,13 +51,13 @@ returns-3 : tie.Need-returns-3
 returns-3 c =
     let k = c .before .before .before .before .before .before in
     let b = k .before .before .before in
-    by-orders _ _ _ _ (b .before .stands-fit .ensures) (not-false _ (b .if1 .left)) _ (k .before .channel-fits .ensures) (not-false _ (k .if2 .left)) _ (c .before .before .start-of .ensures .0) _ (c .orders-fit .ensures)
+    by-orders _ _ _ _ (b .before .position-fits .ensures) (not-false _ (b .if1 .left)) _ (k .before .channel-fits .ensures) (not-false _ (k .if2 .left)) _ (c .before .before .start-of .ensures .0) _ (c .orders-fit .ensures)
 
 pub held-fits-spec : {M : Type 1} → statement M
 held-fits-spec =
     tie.close
     (tie.spec
-    stands-fit-requires
+    position-fits-requires
     returns
     channel-fits-requires
     returns-2

@@ -5,7 +5,7 @@ use Prim.Native.Nat.{ℕ, _+_, _-_, _≤_}
 use native.Mathlib.Omega.{arith}
 use lib.ListN.{length}
 use Rattle.cells.specs.Cells.{bytesOf}
-use Rattle.house_check.specs.Check.{step, feed, byteBits, bits, check}
+use Rattle.house_check.specs.Check.{bitStep, feed, byteBits, bits, check}
 use Rattle.house_check.specs.Fold.{cellsIn, rest}
 use Rattle.house_check.proofs.Cells.{left}
 use Rattle.house_check.proofs.Words.{left-four, dropped-whole}
@@ -20,7 +20,7 @@ abbrev μ-loop : tie.MeasureT-loop
 μ-loop cells n at₀ s₀ at s = length cells - at
 
 loop-holds : tie.Need-loop-holds Inv-loop μ-loop
-unfolding check left rest cellsIn bits byteBits feed step
+unfolding check left rest cellsIn bits byteBits feed bitStep
 loop-holds c = (omega arith, refl)
 
 loop-again : tie.Need-loop-again Inv-loop μ-loop

@@ -11,7 +11,7 @@ use borrow.Author.Tests.{eq-eqb, ne-eqb}
 use Rattle.cells.specs.Choice.{both}
 use Rattle.cells.specs.Cells.{marker}
 use Rattle.cells.proofs.Every.{Every, every-not, every-so, every-end}
-use Rattle.hunt.specs.Hunt.{bare}
+use Rattle.hunt.specs.Hunt.{markerless}
 use borrow.Author.Needs.{needs}
 use Rattle.hunt.proofs.is_bare.Statement.{statement}
 use Rattle.hunt.proofs.is_bare.Tie as tie
@@ -19,15 +19,15 @@ use Rattle.hunt.proofs.is_bare.Tie as tie
 other : ℕ → Bool
 other x = not (eqb x marker)
 
-every-other : Every other bare
-unfolding bare other
+every-other : Every other markerless
+unfolding markerless other
 every-other = record {
   none = refl;
   more = λ x l. refl;
 }
 
 abbrev Inv-loop : tie.InvT-loop
-Inv-loop cells b₀ i₀ b i = (i ≤ length cells) × (bare cells ≡ both b (bare (drop i cells)))
+Inv-loop cells b₀ i₀ b i = (i ≤ length cells) × (markerless cells ≡ both b (markerless (drop i cells)))
 
 abbrev μ-loop : tie.MeasureT-loop
 μ-loop cells b₀ i₀ b i = length cells - i
@@ -41,12 +41,12 @@ loop-again c =
     let b′ = c .if1 .bare in (
       omega arith,
       l .inv .1
-          ∙ ⊎-elim (λ w. every-not other bare every-other _ _ b b′ k (ap not (eq-eqb _ marker (w .0 .taken))) (w .1))
-          (λ w. every-so other bare every-other _ _ b b′ k (ap not (ne-eqb _ marker (w .0 .left))) (w .1)) (c .if1 .came),
+          ∙ ⊎-elim (λ w. every-not other markerless every-other _ _ b b′ k (ap not (eq-eqb _ marker (w .0 .taken))) (w .1))
+          (λ w. every-so other markerless every-other _ _ b b′ k (ap not (ne-eqb _ marker (w .0 .left))) (w .1)) (c .if1 .came),
     )
 
 returns : tie.Need-returns Inv-loop μ-loop
-returns c = sym (c .before .loop .inv .1 ∙ every-end other bare every-other _ _ _ (c .loop-test .left))
+returns c = sym (c .before .loop .inv .1 ∙ every-end other markerless every-other _ _ _ (c .loop-test .left))
 
 pub is-bare-spec : {M : Type 1} → statement M
 is-bare-spec =

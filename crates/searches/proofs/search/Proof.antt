@@ -1,5 +1,5 @@
 -- The field lies on the track, since all that the job names was readable; the rest is what its calls say.
-use Rattle.searches.proofs.Told.{field-ends, search-tells}
+use Rattle.searches.proofs.Report.{field-ends, search-tells}
 use borrow.Author.Needs.{needs}
 use Rattle.searches.proofs.search.Statement.{statement}
 use Rattle.searches.proofs.search.Tie as tie

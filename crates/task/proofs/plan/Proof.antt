@@ -1,17 +1,17 @@
 -- The rows in their order, then the task.
 use mathlib.Core.Path.{sym, _∙_}
 use borrow.Author.Tests.{not-true, not-false}
-use Rattle.command.specs.Command.{plans}
+use Rattle.command.specs.Command.{planOf}
 use borrow.Author.Needs.{needs}
 use Rattle.task.proofs.plan.Statement.{statement}
 use Rattle.task.proofs.plan.Tie as tie
 
 returns : tie.Need-returns
-unfolding plans
+unfolding planOf
 returns c = rw (sym (c .before .licensed .ensures) ∙ not-true _ (c .if1 .taken))
 
 returns-2 : tie.Need-returns-2
-unfolding plans
+unfolding planOf
 returns-2 c = rw (sym (c .before .before .before .licensed .ensures) ∙ not-false _ (c .before .before .if1 .left), ← c .before .aimed .ensures) (c .unless-barred .ensures)
 
 pub plan-spec : {M : Type 1} → statement M

@@ -1,5 +1,5 @@
 -- Each arm knows what the row does, and calls the family that tells it.
-use Rattle.command.specs.Command.{acts}
+use Rattle.command.specs.Command.{actTurn}
 use Rattle.writes.proofs.Rows.{writes-by}
 use mathlib.Core.Path.{_∙_}
 use Rattle.reads.proofs.Sight.{told-are}
@@ -14,21 +14,21 @@ write-requires c κs =
     writes-by _ _ (k .pre .1 .rule) (c .before .act4 .given .1)
 
 returns : tie.Need-returns
-unfolding acts
+unfolding actTurn
 returns c = told-by _ _ _ _ _ (c .before .before .act .given .1) (c .control .ensures)
 
 returns-2 : tie.Need-returns-2
-unfolding acts
+unfolding actTurn
 returns-2 c = told-by _ _ _ _ _ (c .before .before .act2 .given .1) (c .search .ensures)
 
 returns-3 : tie.Need-returns-3
-unfolding acts
+unfolding actTurn
 returns-3 c =
     let k = c .before .before .before .before .before .before .before in
     told-by _ _ _ _ _ (c .before .before .act3 .given .1) (c .read .ensures ∙ told-are _ _ (k .pre .1) _ _)
 
 returns-4 : tie.Need-returns-4
-unfolding acts
+unfolding actTurn
 returns-4 c = told-by _ _ _ _ _ (c .before .before .act4 .given .1) (c .write .ensures)
 
 pub ask-spec : {M : Type 1} → statement M

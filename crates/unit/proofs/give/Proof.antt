@@ -1,15 +1,15 @@
 -- Reads give what they have read, Sense its bytes; searches and writes give nothing.
 use mathlib.Core.Path.{refl}
 use Rattle.table.specs.declared.{Act.Act}
-use Rattle.command.specs.Command.{acts}
-use Rattle.frame.specs.Frame.{givesBytes}
+use Rattle.command.specs.Command.{actTurn}
+use Rattle.claim_frame.specs.Frame.{givesBytes}
 use Rattle.unit.proofs.Laws.{given-by, none-given}
 use borrow.Author.Needs.{needs}
 use Rattle.unit.proofs.give.Statement.{statement}
 use Rattle.unit.proofs.give.Tie as tie
 
 returns : tie.Need-returns
-unfolding acts
+unfolding actTurn
 returns c =
     let k = c .before .before .before .before .before in
     λ g v. given-by _ _ _ g _ _ _ (k .act .given .1) (c .before .before .give-control .ensures g _ v)
@@ -19,7 +19,7 @@ unfolding givesBytes
 returns-2 c = λ g v. given-by _ _ _ g _ _ _ (c .enum-told .given .1) (none-given _ _ g _ (Act.Search _) refl)
 
 returns-3 : tie.Need-returns-3
-unfolding acts
+unfolding actTurn
 returns-3 c =
     let k = c .before .before .before .before .before in
     λ g v. given-by _ _ _ g _ _ _ (k .act2 .given .1) (c .before .before .give .ensures v)

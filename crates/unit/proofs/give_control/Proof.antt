@@ -7,8 +7,8 @@ use types.Run.{OneOf, miss}
 use denote.Enum.Declared.{tagOf}
 use Rattle.table.specs.declared.{Control.Control, Act.Act}
 use Rattle.table.proofs.Control.{the-type}
-use Rattle.command.specs.Command.{sight, acts}
-use Rattle.frame.specs.Frame.{givesBytes}
+use Rattle.command.specs.Command.{sight, actTurn}
+use Rattle.claim_frame.specs.Frame.{givesBytes}
 use Rattle.unit.proofs.Laws.{sense-given, none-given}
 use borrow.Author.Needs.{needs}
 use Rattle.unit.proofs.give_control.Statement.{statement}
@@ -32,7 +32,7 @@ unfolding sight
 returns c = λ g t v. sense-given _ _ _ g (sight t _ v) _ (c .before .before .before .before .before .enum-told .given .1) (c .before .before .give-sense .ensures)
 
 returns-2 : tie.Need-returns-2
-unfolding acts
+unfolding actTurn
 returns-2 c = λ g t v. none-given _ _ g (sight t _ v) (Act.Control _) (silent _ (c .match .keys2))
 
 pub give-control-spec : {M : Type 1} → statement M

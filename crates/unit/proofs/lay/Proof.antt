@@ -1,7 +1,7 @@
 -- Only a write lays; the others leave the track as it is.
 use mathlib.Core.Path.{refl}
 use Rattle.table.specs.Table.{isWrite}
-use Rattle.command.specs.Command.{acts}
+use Rattle.command.specs.Command.{actTurn}
 use Rattle.writes.proofs.Rows.{writes-by}
 use Rattle.unit.proofs.Laws.{none-laid, laid-by, accepts-by}
 use borrow.Author.Needs.{needs}
@@ -26,7 +26,7 @@ unfolding isWrite
 returns-3 c = λ g. none-laid _ g _ _ _ (c .enum-told3 .given .1) refl
 
 returns-4 : tie.Need-returns-4
-unfolding acts
+unfolding actTurn
 returns-4 c = λ g. laid-by _ _ g _ _ _ (c .before .before .before .before .before .act .given .1) (c .before .before .lay .ensures)
 
 pub lay-spec : {M : Type 1} → statement M

@@ -1,6 +1,6 @@
 -- The key, if it is sent, then the data.
 use mathlib.Core.Path.{_∙_}
-use Rattle.writes.proofs.Told.{key-bad, both-recorded}
+use Rattle.writes.proofs.Report.{key-bad, both-recorded}
 use borrow.Author.Needs.{needs}
 use Rattle.writes.proofs.are_recorded.Statement.{statement}
 use Rattle.writes.proofs.are_recorded.Tie as tie

@@ -4,7 +4,7 @@ use Rattle.writes.proofs.Calls.{gone-over, not-over}
 use borrow.Author.Needs.{needs}
 use Rattle.writes.proofs.go_over.Statement.{statement}
 use Rattle.writes.proofs.go_over.Tie as tie
-use Rattle.laying.proofs.lay_area.Reads as lay-area-reads
+use Rattle.format.proofs.lay_area.Reads as lay-area-reads
 
 lay-area-requires : tie.Need-lay-area-requires
 lay-area-requires c κs = c .before .before .before .before .pre (c .before .if1 .taken)

@@ -1,11 +1,11 @@
 -- An area that is not there asks nothing.
 use mathlib.Core.Path.{_∙_}
 use borrow.Author.Tests.{not-true, not-false}
-use Rattle.writes.proofs.Told.{not-there, area-there}
+use Rattle.writes.proofs.Report.{not-there, area-there}
 use borrow.Author.Needs.{needs}
 use Rattle.writes.proofs.is_recorded_if.Statement.{statement}
 use Rattle.writes.proofs.is_recorded_if.Tie as tie
-use Rattle.laying.proofs.is_recorded.Reads as is-recorded-reads
+use Rattle.format.proofs.is_recorded.Reads as is-recorded-reads
 
 returns : tie.Need-returns
 returns c = c .if1 .taken ∙ not-there _ _ _ (not-true _ (c .if1 .taken))

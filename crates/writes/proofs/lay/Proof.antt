@@ -5,7 +5,7 @@ use Rattle.writes.proofs.lay.Statement.{statement}
 use Rattle.writes.proofs.lay.Tie as tie
 use Rattle.areas.proofs.end_by.Reads as end-by-reads
 use Rattle.areas.proofs.flag_after.Reads as flag-after-reads
-use Rattle.areas.proofs.flag_of_zero.Reads as flag-of-zero-reads
+use Rattle.areas.proofs.flag_of_r0.Reads as flag-of-r0-reads
 use Rattle.cells.proofs.low_at.Reads as low-at-reads
 use Rattle.writes.proofs.lay_after.Reads as lay-after-reads
 use Rattle.writes.proofs.lay_home.Reads as lay-home-reads
@@ -17,7 +17,7 @@ lay-r0-requires c κs =
     let l = c .before .before in
     let m = l .before .before in
     let p = m .before .before .before .before .before .pre in
-    (p .0, r0-room _ _ _ _ (p .1) (p .0) (p .2) _ _ (m .enum-told2 .given .1) (l .low-at .ensures) (c .before .flag-of-zero .ensures))
+    (p .0, r0-room _ _ _ _ (p .1) (p .0) (p .2) _ _ (m .enum-told2 .given .1) (l .low-at .ensures) (c .before .flag-of-r0 .ensures))
 
 lay-after-requires : tie.Need-lay-after-requires
 lay-after-requires c κs =
@@ -42,7 +42,7 @@ returns-2 c =
     let l = c .before .before .before .before .before in
     let m = l .before .before in
     let p = m .before .before .before .before .before .pre in
-    lays-r0 _ _ _ _ (p .1) (p .0) (p .2) _ _ (m .enum-told2 .given .1) (l .low-at .ensures) (c .before .before .before .before .flag-of-zero .ensures) _ (c .before .before .lay-r0 .ensures)
+    lays-r0 _ _ _ _ (p .1) (p .0) (p .2) _ _ (m .enum-told2 .given .1) (l .low-at .ensures) (c .before .before .before .before .flag-of-r0 .ensures) _ (c .before .before .lay-r0 .ensures)
 
 returns-3 : tie.Need-returns-3
 returns-3 c =

@@ -5,8 +5,8 @@ use borrow.Author.Needs.{needs}
 use Rattle.writes.proofs.lay_after.Statement.{statement}
 use Rattle.writes.proofs.lay_after.Tie as tie
 use Rattle.areas.proofs.cells_needed.Reads as cells-needed-reads
-use Rattle.laying.proofs.lay_marked.Reads as lay-marked-reads
-use Rattle.laying.proofs.new_counts.Reads as new-counts-reads
+use Rattle.format.proofs.lay_marked.Reads as lay-marked-reads
+use Rattle.format.proofs.new_counts.Reads as new-counts-reads
 use Rattle.recording.proofs.wipe.Reads as wipe-reads
 
 cast-lay-marked : tie.Need-cast-lay-marked

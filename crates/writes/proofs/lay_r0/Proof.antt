@@ -4,8 +4,8 @@ use borrow.Author.Needs.{needs}
 use Rattle.writes.proofs.lay_r0.Statement.{statement}
 use Rattle.writes.proofs.lay_r0.Tie as tie
 use Rattle.areas.proofs.record_cells.Reads as record-cells-reads
-use Rattle.laying.proofs.lay_record.Reads as lay-record-reads
-use Rattle.laying.proofs.new_counts.Reads as new-counts-reads
+use Rattle.format.proofs.lay_record.Reads as lay-record-reads
+use Rattle.format.proofs.new_counts.Reads as new-counts-reads
 use Rattle.recording.proofs.wipe.Reads as wipe-reads
 
 lay-record-requires : tie.Need-lay-record-requires

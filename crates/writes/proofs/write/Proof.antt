@@ -1,11 +1,11 @@
 -- By the write.
-use Rattle.writes.proofs.Told.{tells-home, tells-r0, tells-record, tells-over}
+use Rattle.writes.proofs.Report.{tells-home, tells-r0, tells-record, tells-over}
 use borrow.Author.Needs.{needs}
 use Rattle.writes.proofs.write.Statement.{statement}
 use Rattle.writes.proofs.write.Tie as tie
 use Rattle.areas.proofs.end_by.Reads as end-by-reads
 use Rattle.areas.proofs.flag_after.Reads as flag-after-reads
-use Rattle.areas.proofs.flag_of_zero.Reads as flag-of-zero-reads
+use Rattle.areas.proofs.flag_of_r0.Reads as flag-of-r0-reads
 use Rattle.cells.proofs.low_at.Reads as low-at-reads
 use Rattle.ending.proofs.ended.Reads as ended-reads
 use Rattle.writes.proofs.write_after.Reads as write-after-reads
@@ -20,7 +20,7 @@ returns c =
 returns-2 : tie.Need-returns-2
 returns-2 c =
     let m = c .before .before .before in
-    tells-r0 _ _ _ _ (m .before .before .before .before .before .pre) _ _ _ (m .enum-told2 .given .1) (c .before .before .low-at .ensures) (c .before .flag-of-zero .ensures) (c .write-r0 .ensures)
+    tells-r0 _ _ _ _ (m .before .before .before .before .before .pre) _ _ _ (m .enum-told2 .given .1) (c .before .before .low-at .ensures) (c .before .flag-of-r0 .ensures) (c .write-r0 .ensures)
 
 returns-3 : tie.Need-returns-3
 returns-3 c =

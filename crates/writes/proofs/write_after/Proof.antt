@@ -1,13 +1,13 @@
 -- No room ends it; else it ends after the new record's marker, and where there is room that lies on the track.
 use native.Mathlib.Omega.{arith}
 use borrow.Author.Tests.{not-true, not-false}
-use Rattle.writes.proofs.Told.{new-fails, new-ends, record-begins, record-told}
+use Rattle.writes.proofs.Report.{new-fails, new-ends, record-begins, record-told}
 use borrow.Author.Needs.{needs}
 use Rattle.writes.proofs.write_after.Statement.{statement}
 use Rattle.writes.proofs.write_after.Tie as tie
 use Rattle.areas.proofs.cells_needed.Reads as cells-needed-reads
 use Rattle.ending.proofs.ended_at.Reads as ended-at-reads
-use Rattle.laying.proofs.new_counts.Reads as new-counts-reads
+use Rattle.format.proofs.new_counts.Reads as new-counts-reads
 use Rattle.room.proofs.has_room.Reads as has-room-reads
 use Rattle.writes.proofs.fail.Reads as fail-reads
 use Rattle.writes.proofs.record_takes.Reads as record-takes-reads

@@ -1,6 +1,6 @@
 -- Cells that are no bytes end it; else it ends at its own place, by DL.
 use borrow.Author.Tests.{not-true, not-false}
-use Rattle.writes.proofs.Told.{over-fails, over-ends}
+use Rattle.writes.proofs.Report.{over-fails, over-ends}
 use borrow.Author.Needs.{needs}
 use Rattle.writes.proofs.write_over.Statement.{statement}
 use Rattle.writes.proofs.write_over.Tie as tie

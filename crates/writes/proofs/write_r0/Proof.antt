@@ -1,12 +1,12 @@
 -- No room ends it; else it ends at its own place.
 use borrow.Author.Tests.{not-true, not-false}
-use Rattle.writes.proofs.Told.{new-fails, new-ends, r0-told}
+use Rattle.writes.proofs.Report.{new-fails, new-ends, r0-told}
 use borrow.Author.Needs.{needs}
 use Rattle.writes.proofs.write_r0.Statement.{statement}
 use Rattle.writes.proofs.write_r0.Tie as tie
 use Rattle.areas.proofs.record_cells.Reads as record-cells-reads
 use Rattle.ending.proofs.ended.Reads as ended-reads
-use Rattle.laying.proofs.new_counts.Reads as new-counts-reads
+use Rattle.format.proofs.new_counts.Reads as new-counts-reads
 use Rattle.room.proofs.has_room.Reads as has-room-reads
 use Rattle.writes.proofs.fail.Reads as fail-reads
 use Rattle.writes.proofs.record_takes.Reads as record-takes-reads

@@ -1,0 +1,21 @@
+-- Each row's columns come to it by computing.
+use mathlib.Core.Path.{_≡_, refl}
+use mathlib.Core.Bool.{Bool, true, false}
+use Rattle.cells.specs.Choice.{either}
+use Rattle.claim_box.proofs.Opened.{command}
+use Rattle.claim_pinned.specs.Writes.{oneOf, follows, WritesNeed}
+
+-- the last of some codes
+last : (b : Bool) → either b false ≡ b
+last true = refl
+last false = refl
+
+pub writes : WritesNeed
+unfolding command oneOf follows
+writes = record {
+  home = record { licence = λ o. refl; mask = λ m p. refl };
+  zero = record { licence = λ o. simp (last) refl; mask = λ m p. refl };
+  count-key-data = record { licence = λ o. simp (last) refl; mask = λ m p. refl };
+  body = record { licence = λ o. simp (last) refl; mask = λ m p. refl };
+  key-and-body = record { licence = λ o. simp (last) refl; mask = λ m p. refl };
+}

@@ -1,2 +1,0 @@
--- The model of what a write lays on a track.
-pub mod Laying
