@@ -10,11 +10,9 @@ use lib.Seq.{getD-take, getD-drop}
 use native.Mathlib.Nat.{add-zero, add-assoc}
 use lib.Dec.{lit<}
 use borrow.Author.Tests.{ne-eqb, eq-eqb}
-use Rattle.cells.specs.Choice.{pick, both}
-use Rattle.cells.specs.Bytes.{part, be16}
-use Rattle.cells.specs.Cells.{byteOf, bytesOf, allBytes}
+use Rattle.cells.specs.Cells.{pick, both, part, be16, byteOf, bytesOf, allBytes}
 use Rattle.cells.proofs.Laws.{getD-bytesOf}
-use Rattle.house_check.specs.Area.{agrees, goodCells}
+use Rattle.house_check.specs.Check.{agrees, goodCells}
 use Rattle.areas.specs.declared.{Area.Area, Counts.Counts}
 use Rattle.areas.specs.declared.Part.the-variants.{Data}
 use Rattle.areas.specs.declared.CountRead.the-variants.{Reads, Fails}

@@ -1,14 +1,12 @@
--- Document 01, "What lies on a track": the home address, R0 and the records, where their areas lie, when an area is readable.
--- A record is known by the first cell of its count area: 7 for R0, the cell after the marker for any other. Assumes nothing.
-use Prim.Native.Nat.{ℕ, _+_, max}
+-- Document 01, "What lies on a track": the home address, R0 and the records, where their areas lie, when an area is readable; flag bytes.
+-- A record is known by the first cell of its count area: 7 for R0, the cell after the marker for any other.
+use Prim.Native.Nat.{ℕ, _+_, max, _-_, _*_, _/_, _%_}
 use mathlib.Core.Bool.{Bool}
 use mathlib.Core.List.{List}
 use lib.ListN.{getD, take}
 use lib.Dec.{eqb}
-use Rattle.cells.specs.Choice.{pick}
-use Rattle.cells.specs.Bytes.{be16, part}
-use Rattle.cells.specs.Cells.{bytesOf}
-use Rattle.house_check.specs.Area.{checkBytes, goodCells}
+use Rattle.cells.specs.Cells.{pick, be16, part, bytesOf}
+use Rattle.house_check.specs.Check.{checkBytes, goodCells}
 use Rattle.rows.specs.declared.{Row.Row}
 use Rattle.areas.specs.declared.{Part.Part, Area.Area, Counts.Counts, CountRead.CountRead}
 
@@ -107,3 +105,18 @@ endBy c n = c + recordCells n
 -- what a new record needs: its marker too
 unfoldable pub needed : Counts → ℕ
 needed n = 1 + recordCells n
+
+-- bit 0, and bits 6 and 7, of a flag byte
+abbrev pub oddEven : ℕ → ℕ
+oddEven f = f / 128
+
+abbrev pub copied : ℕ → ℕ
+copied f = f % 4
+
+-- R0's: bit 0 is 0; bits 6 and 7 copy the home address's
+unfoldable pub flagOfR0 : ℕ → ℕ
+flagOfR0 home = copied home
+
+-- a later record's: bit 0 is opposite to the record before, bits 6 and 7 copy that record's
+unfoldable pub flagAfter : ℕ → ℕ
+flagAfter before = (1 - oddEven before) * 128 + copied before

@@ -1,3 +1,2 @@
 -- The model of what lies on a track.
 pub mod Areas
-pub mod Flags

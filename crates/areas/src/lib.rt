@@ -4,8 +4,7 @@ ghost use mathlib.Core.Path.{_≡_};
 ghost use Prim.Native.Nat.{_+_, _*_, _<_};
 ghost use lib.ListN.{getD};
 ghost use Rattle.cells.specs.Cells.{byteOf};
-ghost use Rattle.areas.specs.Areas.{area, readable, rowOf, homeArea, countArea, countsAt, readCount, keyCells, dataBytes, keyArea, dataArea, recordCells, endBy, needed};
-ghost use Rattle.areas.specs.Flags.{flagOfR0, flagAfter};
+ghost use Rattle.areas.specs.Areas.{area, readable, rowOf, homeArea, countArea, countsAt, readCount, keyCells, dataBytes, keyArea, dataArea, recordCells, endBy, needed, flagOfR0, flagAfter};
 
 // What an area holds.
 pub enum Part {

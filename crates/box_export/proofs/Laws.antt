@@ -7,7 +7,7 @@ use lib.ListN.{length}
 use lib.Dec.{eqb}
 use borrow.Author.Tests.{eq-eqb, eqb-true}
 use Rattle.cells.proofs.Tests.{first-of}
-use Rattle.cells.specs.Choice.{pick}
+use Rattle.cells.specs.Cells.{pick}
 use Rattle.pack.specs.declared.{Shape.Shape}
 use Rattle.held.specs.declared.{Held.Held, Kept.Kept}
 use Rattle.held.specs.declared.Kept.the-variants.{Holds, Wrong}

@@ -5,7 +5,7 @@ use pack::Shape;
 ghost use mathlib.Core.Path.{_≡_};
 ghost use lib.ListN.{length};
 ghost use lib.Dec.{eqb};
-ghost use Rattle.cells.specs.Choice.{pick};
+ghost use Rattle.cells.specs.Cells.{pick};
 ghost use Rattle.held.specs.Held.{fresh};
 ghost use Rattle.held.specs.Bytes.{heldBytes, encoded, bit};
 ghost use Rattle.look.specs.Look.{markerCall, looked, areaCall};

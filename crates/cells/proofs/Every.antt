@@ -6,7 +6,7 @@ use Prim.Native.Nat.{ℕ, suc, _+_, _<_, _≤_}
 use native.Mathlib.Numerals.{add-one}
 use lib.ListN.{length, drop, getD, drop-of-length-le}
 use lib.Seq.{drop-cons}
-use Rattle.cells.specs.Choice.{both}
+use Rattle.cells.specs.Cells.{both}
 use Rattle.cells.proofs.Marks.{both-never}
 
 -- every is whether f holds of all

@@ -8,8 +8,7 @@ use native.Mathlib.Nat.{add-zero}
 use native.Mathlib.Decide.{decLe}
 use lib.ListN.{length, getD, take, drop, set, length-append, length-take, length-drop, length-map, take-append-drop, List·getD-map, List·getD-append}
 use lib.Seq.{length-take-le, take-suc, take-take, take-all, take-append-seam, take-at, drop-at, drop-append-add, drop-drop, getD-append-add, drop-cons, set-at, append-snoc, getD-take, getD-drop}
-use Rattle.cells.specs.Bytes.{part, overlay, padded}
-use Rattle.cells.specs.Cells.{byteOf, bytesOf}
+use Rattle.cells.specs.Cells.{part, overlay, padded, byteOf, bytesOf}
 
 -- ---- bytes of cells
 

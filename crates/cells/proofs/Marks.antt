@@ -7,8 +7,7 @@ use native.Mathlib.Nat.{add-zero, add-suc, suc-add, zero-add}
 use lib.ListN.{length, getD}
 use lib.Dec.{leb, eqb}
 use borrow.Author.Tests.{le-leb, lt-leb, eq-eqb, ne-eqb}
-use Rattle.cells.specs.Choice.{both}
-use Rattle.cells.specs.Cells.{firstMarker, marker, markAt, marksFrom, marks}
+use Rattle.cells.specs.Cells.{both, firstMarker, marker, markAt, marksFrom, marks}
 
 pub both-never : (b : Bool) → both b false ≡ false
 both-never true = refl

@@ -5,7 +5,7 @@ use mathlib.Core.List.{List, [], _∷_}
 use native.Mathlib.Omega.{arith}
 use native.Mathlib.Decide.{decLt}
 use lib.ListN.{length, getD, drop, length-take, List·getD-eq-default}
-use Rattle.cells.specs.Bytes.{part, numberFrom}
+use Rattle.cells.specs.Cells.{part, numberFrom}
 use Rattle.cells.proofs.Laws.{getD-part}
 
 -- each is a byte

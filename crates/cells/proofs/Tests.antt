@@ -4,7 +4,7 @@ use mathlib.Core.Bool.{Bool, true, false, false≢true}
 use mathlib.Core.Path.{_≡_, refl, ap}
 use native.Mathlib.Omega.{arith}
 use lib.Dec.{ltb}
-use Rattle.cells.specs.Choice.{pick, both}
+use Rattle.cells.specs.Cells.{pick, both}
 use borrow.Author.Tests.{lt-ltb, le-ltb, le-leb, lt-leb, eq-eqb, ne-eqb}
 
 pub zero-ltb : (n : ℕ) → n ≡ 0 → ltb 0 n ≡ false

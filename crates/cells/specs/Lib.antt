@@ -1,4 +1,2 @@
--- What every other crate's model is written with: a choice, lists of numbers, cells.
-pub mod Choice
-pub mod Bytes
+-- What every other crate's model is written with.
 pub mod Cells

@@ -10,8 +10,8 @@ use Rattle.cells.proofs.Tests.{first-of, second-of, both-of}
 use Rattle.mask.specs.Mask.{legal}
 use Rattle.words.specs.Words.{addresses}
 use Rattle.pack.specs.declared.{Shape.Shape}
-use Rattle.pack.specs.Shapes.{cylinderOn, headOn}
-use Rattle.pack.specs.Tracks as Tracks
+use Rattle.pack.specs.Pack.{cylinderOn, headOn}
+use Rattle.pack.specs.Pack as Tracks
 use Rattle.command.specs.Command.{mostTally, SelectedOn}
 use Rattle.command.proofs.Plans.{Leaves}
 use Rattle.table.specs.Table.{ruleOf}

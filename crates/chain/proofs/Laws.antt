@@ -9,10 +9,9 @@ use borrow.Rule.Slice.PartMut.{putMid}
 use Rattle.words.specs.declared.{Word.Word, Cause.Cause, Status.Status, Tested.Tested}
 use Rattle.words.specs.declared.Tested.the-variants.{Obey}
 use Rattle.words.proofs.Obeys.{TestedIn, tested-in}
-use Rattle.words.specs.Words.{Reaches, tested}
-use Rattle.words.specs.Status.{stored, programCheck}
+use Rattle.words.specs.Words.{Reaches, tested, stored, programCheck}
 use Rattle.pack.specs.declared.{Shape.Shape}
-use Rattle.pack.specs.Tracks.{startOf, trackAt, withTrack}
+use Rattle.pack.specs.Pack.{startOf, trackAt, withTrack}
 use Rattle.pack.proofs.Laws.{lent-is, lent-back}
 use Rattle.held.specs.declared.{Held.Held}
 use Rattle.held.specs.Held.{rested}

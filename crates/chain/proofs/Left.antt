@@ -7,15 +7,13 @@ use native.Mathlib.Nat.{add-zero}
 use native.Mathlib.Omega.{arith}
 use lib.ListN.{length, getD}
 use lib.Dec.{ltb}
-use Rattle.cells.specs.Choice.{pick, both}
-use Rattle.cells.specs.Bytes.{padded}
-use Rattle.cells.specs.Cells.{trackCells, marker, marks}
+use Rattle.cells.specs.Cells.{pick, both, padded, trackCells, marker, marks}
 use Rattle.cells.proofs.Marks.{getD-marks, mark-here}
 use Rattle.cells.proofs.Tests.{pick-all, first-of, second-of}
 use Rattle.rows.specs.declared.{Row.Row}
 use Rattle.mask.specs.declared.{Seeking.Seeking}
 use Rattle.mask.specs.Mask.{legal}
-use Rattle.house_check.specs.Area as Area
+use Rattle.house_check.specs.Check as House
 use Rattle.areas.specs.declared.{Counts.Counts}
 use Rattle.areas.specs.Areas.{homeBytes, r0First, keyArea, dataArea, recordCells, endBy, needed}
 use Rattle.hunt.specs.declared.{Spot.Spot}
@@ -29,19 +27,16 @@ use Rattle.held.specs.declared.{Selection.Selection, Position.Position, Orders.
 use Rattle.held.specs.declared.Selection.the-variants.{Nothing, On}
 use Rattle.turn.specs.declared.{Ending.Ending}
 use Rattle.turn.specs.declared.Ending.the-variants.{Normal}
-use Rattle.turn.specs.Turn.{positionAt, withSense, positionSought, after}
+use Rattle.turn.specs.Turn.{positionAt, withSense, positionSought, after, Tracks, TrackArea, Piece, Moves, Takes, Turn, lay, checkTurn}
 use Rattle.format.specs.Format.{newCounts, newRecord, formatted}
 use Rattle.format.proofs.Laws.{length-area, length-new, formatted-inside}
-use Rattle.command.specs.Command.{mostTally}
-use Rattle.command.specs.Command.{named}
+use Rattle.command.specs.Command.{mostTally, named, Marks, marksOf, planOf, Sight, sight, allRecorded, goesOver, writesOver, failTurn, positionAfter, ordersAfter, endTurnAt, endTurn, endingOf, noOpTurn, senseTurn, soughtBy, addressed, arrivalTurn, seekTurn, maskedTurn, maskTurn, spacedPlace, spaceTurn, fieldTurn, searchTurn, readTurn, piece, toEnd, homeTurn, recordTakes, newTurn, r0Turn, recordTurn, overPiece, keySent, updateTurn, controlTurn, writeTurn, actTurn, jobOf, hasRead, readyBy, readyTurn, ruleTurn, command, task}
 use Rattle.command.specs.declared.{Got.Got, Task.Task, Job.Job, Plan.Plan}
 use Rattle.command.specs.declared.Got.the-variants.{Sees, Fails}
 use Rattle.table.specs.declared.{Control.Control, Write.Write, Act.Act, Rule.Rule}
 use Rattle.table.specs.Table.{ruleOf, isHome, controls, searches, reads, writes}
 use Rattle.table.proofs.Laws.{every, each, of-every}
-use Rattle.turn.specs.Turn.{Tracks, TrackArea, Piece, Moves, Takes, Turn, lay, checkTurn}
 use Rattle.command.specs.declared.Plan.the-variants.{Refuses, Works}
-use Rattle.command.specs.Command.{Marks, marksOf, planOf, Sight, sight, allRecorded, goesOver, writesOver, failTurn, positionAfter, ordersAfter, endTurnAt, endTurn, endingOf, noOpTurn, senseTurn, soughtBy, addressed, arrivalTurn, seekTurn, maskedTurn, maskTurn, spacedPlace, spaceTurn, fieldTurn, searchTurn, readTurn, piece, toEnd, homeTurn, recordTakes, newTurn, r0Turn, recordTurn, overPiece, keySent, updateTurn, controlTurn, writeTurn, actTurn, jobOf, hasRead, readyBy, readyTurn, ruleTurn, command, task}
 use Rattle.command.proofs.Plans.{selectsOne, not-true, isR0, Leaves, NoMarker, TaskOn, PlanOn, PlanFree, plan-on, none-free, r0-free}
 use Rattle.command.proofs.Pieces.{PiecesOn, length-to-end, format-is, update-on}
 use Rattle.chain.specs.Legal.{positionFits, ordersFit}
@@ -231,7 +226,7 @@ module _ (g : Shape) (tr : Tracks) (s : Position) (o : Orders) (code : ℕ) (v :
     unfolding homeTurn endTurn piece sight
     home-left free =
         ends-left k Normal _ _ false (on .here) (on .place) (on .tally)
-        (on .here, length-to-end 0 (Area.cellsWithCheck (padded homeBytes v)) (omega (arith, length-area homeBytes v)), tt) (free-leaves _ (k .selection) free (on .leaves))
+        (on .here, length-to-end 0 (House.cellsWithCheck (padded homeBytes v)) (omega (arith, length-area homeBytes v)), tt) (free-leaves _ (k .selection) free (on .leaves))
 
     new-left : (k′ : Task) (first : ℕ) (c : Counts) (need : ℕ) (w : List ℕ) → k′ .head ≡ s .head → k′ .tally ≤ mostTally → length w ≡ need
         → (fits first need ≡ true → k′ .place ≤ trackCells)

@@ -6,29 +6,24 @@ use mathlib.Core.Bool.{Bool, true, false}
 use mathlib.Core.List.{List}
 use native.Mathlib.Omega.{arith}
 use lib.ListN.{length, length-take}
-use Rattle.cells.specs.Choice.{pick}
-use Rattle.cells.specs.Bytes.{part, overlay}
-use Rattle.cells.specs.Cells.{trackCells, marks}
+use Rattle.cells.specs.Cells.{pick, part, overlay, trackCells, marks}
 use Rattle.cells.proofs.Laws.{length-overlay, part-overlay}
 use Rattle.cells.proofs.Tests.{pick-all}
 use Rattle.mask.specs.Mask.{legal}
 use Rattle.words.specs.declared.{Word.Word, Tested.Tested, Status.Status, Cause.Cause}
 use Rattle.words.specs.declared.Tested.the-variants.{Obey, Jump, Bad}
-use Rattle.words.specs.Words.{Reaches}
-use Rattle.words.specs.Status.{stored, statusBytes, statusAt}
+use Rattle.words.specs.Words.{Reaches, stored, statusBytes, statusAt}
 use Rattle.words.proofs.Obeys.{TestedIn, tested-in}
 use Rattle.pack.specs.declared.{Shape.Shape}
-use Rattle.pack.specs.Tracks.{startOf, trackAt, withTrack}
+use Rattle.pack.specs.Pack.{startOf, trackAt, withTrack}
 use Rattle.pack.proofs.Laws.{length-track, start-inside}
 use Rattle.hunt.specs.Hunt as Hunt
 use Rattle.held.specs.declared.{Position.Position, Held.Held}
 use Rattle.held.specs.Held.{fresh, freshOrders, freshChannel, rested}
-use Rattle.turn.specs.Turn.{ordersOf}
-use Rattle.channel.specs.Channel.{onward, stride}
+use Rattle.turn.specs.Turn.{ordersOf, Turn, given, reportOf, lay}
+use Rattle.channel.specs.Channel.{onward, stride, fetched, placed, goesOn, heldAfter, statusAfter, withStatus, storageAfter}
 use Rattle.table.specs.Table.{controls, searches, reads, writes, find, ruleOf}
-use Rattle.turn.specs.Turn.{Turn, given, reportOf, lay}
 use Rattle.command.proofs.Pieces.{length-laid}
-use Rattle.channel.specs.Channel.{fetched, placed, goesOn, heldAfter, statusAfter, withStatus, storageAfter}
 use Rattle.chain.specs.Step.{World, world, under, trackUnder, next, tracksOf, layOn, stops, jumped, turnOf, settled, obeyed, stepBy, step}
 use Rattle.chain.specs.Legal.{positionFits, channelFits, selectionFits, ordersFit, Legal}
 use Rattle.chain.proofs.Fits.{stands-on, key-in, channel-fits}

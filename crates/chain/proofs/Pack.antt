@@ -4,11 +4,10 @@ use mathlib.Core.Path.{_≡_, refl, sym, ap, _∙_}
 use mathlib.Core.List.{List, [], _∷_}
 use native.Mathlib.Omega.{arith}
 use lib.ListN.{length}
-use Rattle.cells.specs.Bytes.{overlay}
-use Rattle.cells.specs.Cells.{trackCells}
+use Rattle.cells.specs.Cells.{overlay, trackCells}
 use Rattle.cells.proofs.Laws.{length-overlay, overlay-same}
 use Rattle.pack.specs.declared.{Cylinder.Cylinder, Head.Head, Shape.Shape}
-use Rattle.pack.specs.Tracks.{startOf, trackAt, withTrack}
+use Rattle.pack.specs.Pack.{startOf, trackAt, withTrack}
 use Rattle.pack.proofs.Laws.{length-track}
 use Rattle.turn.specs.Turn.{Piece, lay}
 use Rattle.command.proofs.Pieces.{PiecesOn}

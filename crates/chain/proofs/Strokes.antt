@@ -7,9 +7,8 @@ use mathlib.Core.List.{List, []}
 use native.Mathlib.Omega.{arith}
 use lib.Dec.{eqb}
 use borrow.Author.Tests.{eqb-true, eq-eqb, ne-eqb}
-use Rattle.cells.specs.Choice.{pick, both}
+use Rattle.cells.specs.Cells.{pick, both, overlay}
 use lib.Seq.{take-nil}
-use Rattle.cells.specs.Bytes.{overlay}
 use Rattle.cells.proofs.Laws.{overlay-none}
 use Rattle.cells.proofs.Tests.{first-of, second-of, first-picked}
 use Rattle.words.specs.declared.{Word.Word, Tested.Tested}
@@ -20,12 +19,10 @@ use Rattle.pack.specs.declared.{Shape.Shape}
 use Rattle.held.specs.declared.{Position.Position, Held.Held, Orders.Orders}
 use Rattle.held.specs.declared.Selection.the-variants.{Nothing}
 use Rattle.turn.specs.declared.Ending.the-variants.{Normal}
-use Rattle.turn.specs.Turn.{positionAt, after, ordersOf}
-use Rattle.channel.specs.Channel.{endsWell, stride, onward}
+use Rattle.turn.specs.Turn.{positionAt, after, ordersOf, Tracks, None, transferOf, given, Turn, turn, reportOf}
+use Rattle.channel.specs.Channel.{endsWell, stride, onward, fetched, placed, movesAny, lengthCounts, wrongLength, goesOn, heldAfter, withStatus, storageAfter}
 use Rattle.table.specs.Table.{ruleOf, find, controls}
-use Rattle.turn.specs.Turn.{Tracks, None, transferOf, given, Turn, turn, reportOf}
 use Rattle.command.specs.Command.{licensed, aimed, unlessBarred, planOf, areasOf, allRead, countsIn, gets, areasRead, sight, positionAfter, senseAfter, ordersAfter, endTurnAt, endTurn, noOpTurn, controlTurn, actTurn, hasRead, readyBy, planReads, readyTurn, ruleTurn, command}
-use Rattle.channel.specs.Channel.{fetched, placed, movesAny, lengthCounts, wrongLength, goesOn, heldAfter, withStatus, storageAfter}
 use Rattle.chain.specs.Step.{World, world, next, tracksOf, layOn, turnOf, settled, obeyed, stepBy, step, run}
 use Rattle.chain.specs.Legal.{Legal}
 use Rattle.chain.specs.Stroke.{passes, passing, passed, Passed}

@@ -5,14 +5,12 @@ use mathlib.Core.Bool.{Bool, true, not}
 use mathlib.Core.List.{List}
 use lib.ListN.{length}
 use lib.Dec.{ltb, leb}
-use Rattle.cells.specs.Choice.{both}
-use Rattle.cells.specs.Cells.{trackCells, marks}
+use Rattle.cells.specs.Cells.{both, trackCells, marks}
 use Rattle.mask.specs.Mask.{legal}
 use Rattle.words.specs.Words.{addresses}
 use Rattle.hunt.specs.Hunt.{spotFits}
 use Rattle.pack.specs.declared.{Shape.Shape}
-use Rattle.pack.specs.Shapes.{cylinderOn, headOn}
-use Rattle.pack.specs.Tracks.{WholePack}
+use Rattle.pack.specs.Pack.{cylinderOn, headOn, WholePack}
 use Rattle.command.specs.Command.{mostTally}
 use Rattle.table.specs.Table.{ruleOf}
 use Rattle.held.specs.declared.{Selection.Selection, Position.Position, Orders.Orders, Channel.Channel}

@@ -2,13 +2,11 @@
 use Prim.Native.Nat.{ℕ, zero, suc, _+_}
 use mathlib.Core.Bool.{Bool, true, false}
 use mathlib.Core.List.{List, [], _∷_}
-use Rattle.cells.specs.Choice.{pick}
-use Rattle.cells.specs.Bytes.{overlay}
+use Rattle.cells.specs.Cells.{pick, overlay}
 use Rattle.words.specs.declared.{Word.Word, Cause.Cause, Tested.Tested}
-use Rattle.words.specs.Words.{along, tested}
-use Rattle.words.specs.Status.{stored, programCheck}
+use Rattle.words.specs.Words.{along, tested, stored, programCheck}
 use Rattle.pack.specs.declared.{Cylinder.Cylinder, Shape.Shape}
-use Rattle.pack.specs.Tracks.{startOf, trackAt}
+use Rattle.pack.specs.Pack.{startOf, trackAt}
 use Rattle.held.specs.declared.{Held.Held}
 use Rattle.held.specs.Held.{rested}
 use Rattle.table.specs.Table.{isWrite, ruleOf}

@@ -5,7 +5,7 @@ use mathlib.Core.Path.{_≡_}
 use mathlib.Core.Bool.{Bool, false}
 use mathlib.Core.List.{List}
 use lib.Dec.{eqb}
-use Rattle.cells.specs.Choice.{both}
+use Rattle.cells.specs.Cells.{both}
 use Rattle.words.specs.declared.{Word.Word, Tested.Tested}
 use Rattle.words.specs.Words.{chains}
 use Rattle.pack.specs.declared.{Shape.Shape}

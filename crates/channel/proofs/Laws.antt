@@ -8,16 +8,14 @@ use native.Mathlib.Decide.{decLt}
 use lib.ListN.{length}
 use lib.Dec.{ltb, eqb}
 use borrow.Author.Tests.{eq-eqb, ne-eqb, lt-ltb, le-ltb}
-use Rattle.cells.specs.Choice.{pick, both, either}
+use Rattle.cells.specs.Cells.{pick, both, either}
 use Rattle.words.specs.declared.{Word.Word, Status.Status}
-use Rattle.words.specs.Words.{chains, suppresses}
-use Rattle.words.specs.Status.{Storable, stored, statusFor}
+use Rattle.words.specs.Words.{chains, suppresses, Storable, stored, statusFor}
 use Rattle.held.specs.declared.{Channel.Channel}
 use Rattle.held.specs.Held.{rested}
-use Rattle.channel.specs.Channel.{endsWell, stride, onward}
+use Rattle.channel.specs.Channel.{endsWell, stride, onward, bytesMoved, lengthCounts, wrongLength, goesOn, statusAfter, heldAfter, withStatus}
 use Rattle.turn.specs.declared.{Report.Report}
 use Rattle.turn.specs.Turn.{wants}
-use Rattle.channel.specs.Channel.{bytesMoved, lengthCounts, wrongLength, goesOn, statusAfter, heldAfter, withStatus}
 
 module _ (w : Word) (d : Report) where
   pub moved-within : bytesMoved w d ≤ w .count

@@ -5,7 +5,7 @@ use mathlib.Core.List.{List, _++_, append-assoc}
 use native.Mathlib.Omega.{arith}
 use lib.ListN.{length, take, drop}
 use lib.Seq.{length-take-le, take-append-le, drop-append-le, take-append-add, drop-append-add}
-use Rattle.cells.specs.Bytes.{overlay}
+use Rattle.cells.specs.Cells.{overlay}
 use Rattle.cells.proofs.Laws.{length-overlay}
 
 -- what is laid over a part of what was laid is laid over that part first

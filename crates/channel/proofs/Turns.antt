@@ -8,7 +8,7 @@ use native.Mathlib.Omega.{arith}
 use lib.ListN.{length, take, drop, length-take}
 use lib.Seq.{take-nil, drop-drop}
 use borrow.Rule.Slice.PartMut.{putMid}
-use Rattle.cells.specs.Bytes.{part, overlay}
+use Rattle.cells.specs.Cells.{part, overlay}
 use native.Mathlib.Nat.{add-zero}
 use Rattle.cells.proofs.Laws.{length-part, length-overlay, overlay-none, overlay-same}
 use Rattle.channel.proofs.Parts.{overlay-inner}

@@ -5,11 +5,9 @@ use mathlib.Core.Bool.{Bool, true, false, not}
 use mathlib.Core.List.{List}
 use lib.ListN.{take}
 use lib.Dec.{ltb}
-use Rattle.cells.specs.Choice.{pick, both, either}
-use Rattle.cells.specs.Bytes.{part, overlay}
+use Rattle.cells.specs.Cells.{pick, both, either, part, overlay}
 use Rattle.words.specs.declared.{Word.Word, Status.Status}
-use Rattle.words.specs.Words.{along, chains, suppresses}
-use Rattle.words.specs.Status.{stored, statusFor}
+use Rattle.words.specs.Words.{along, chains, suppresses, stored, statusFor}
 use Rattle.pack.specs.declared.{Shape.Shape}
 use Rattle.held.specs.declared.{Channel.Channel, Held.Held}
 use Rattle.held.specs.Held.{rested}

@@ -6,16 +6,14 @@ use mathlib.Core.List.{List}
 use lib.ListN.{length}
 use Rattle.cells.specs.Cells.{marks}
 use Rattle.words.specs.declared.{Word.Word}
-use Rattle.words.specs.Words.{wordBytes, Reaches}
-use Rattle.words.specs.Status.{statusAt}
+use Rattle.words.specs.Words.{wordBytes, Reaches, statusAt}
 use Rattle.hunt.specs.Hunt.{WholeTrack}
 use Rattle.pack.specs.declared.{Shape.Shape}
 use Rattle.held.specs.declared.{Held.Held}
-use Rattle.command.specs.Command.{SelectedOn}
+use Rattle.command.specs.Command.{SelectedOn, sight, actTurn}
 use Rattle.turn.specs.declared.{Report.Report}
 use Rattle.turn.specs.Turn.{alone, given, Turn, reportOf, lay, isCheck}
 use Rattle.command.specs.declared.{Job.Job}
-use Rattle.command.specs.Command.{sight, actTurn}
 use Rattle.channel.specs.Channel.{fetched, placed}
 
 -- the turn of a job, with the bytes at a word's address sent

@@ -7,7 +7,7 @@ use mathlib.Core.Bool.{Bool, true, false, not, false≢true}
 use mathlib.Core.List.{List, [], _∷_}
 use native.Mathlib.Omega.{arith}
 use borrow.Author.Tests.{not-true}
-use Rattle.cells.specs.Choice.{pick, both}
+use Rattle.cells.specs.Cells.{pick, both}
 use Rattle.cells.proofs.Tests.{first-of, second-of}
 use Rattle.words.specs.declared.{Tested.Tested, Begun.Begun}
 use Rattle.words.specs.declared.Tested.the-variants.{Obey, Jump, Bad}
@@ -15,7 +15,7 @@ use Rattle.words.specs.declared.Begun.the-variants.{Begins, Refused}
 use Rattle.words.specs.Words.{along, tested, begunBy}
 use Rattle.areas.specs.declared.{Area.Area}
 use Rattle.pack.specs.declared.{Shape.Shape}
-use Rattle.pack.specs.Tracks.{trackNo, startOf}
+use Rattle.pack.specs.Pack.{trackNo, startOf}
 use Rattle.held.specs.declared.{Held.Held}
 use Rattle.held.specs.Held.{fresh, freshChannel, rested}
 use Rattle.chain.specs.Step.{World, world, under, trackUnder, step, run}

@@ -1,25 +1,18 @@
 -- What the examples compute with. To unfold one of these is to unfold all that its line names.
 use Rattle.rows.specs.Rows as Rows
-use Rattle.cells.specs.Bytes.{part, overlay, padded, numberFrom}
-use Rattle.cells.specs.Cells.{bytesOf, cellsOf, allBytes, marksFrom, marks}
-use Rattle.house_check.specs.Check as Check
-use Rattle.house_check.specs.Area as Area
-use Rattle.areas.specs.Areas.{areaCells, readable, areaBytes, rowOf, countsOf, countsAt, readCount, keyCells, keyArea, dataArea, recordCells, endBy, needed}
-use Rattle.areas.specs.Flags.{flagOfR0, flagAfter}
+use Rattle.cells.specs.Cells.{part, overlay, padded, numberFrom, bytesOf, cellsOf, allBytes, marksFrom, marks}
+use Rattle.house_check.specs.Check as House
+use Rattle.areas.specs.Areas.{areaCells, readable, areaBytes, rowOf, countsOf, countsAt, readCount, keyCells, keyArea, dataArea, recordCells, endBy, needed, flagOfR0, flagAfter}
 use Rattle.hunt.specs.Hunt.{scan, hunt, countFirst, spotFits, pastIndex, aheadOr, nextRecord, nextId, spacedTo, spaceRecord}
 use Rattle.room.specs.Room.{roomLeft, fits}
 use Rattle.mask.specs.Mask.{legal, seeksBarred, barsSeek, writesBarred, barsWrite}
 use Rattle.rows.specs.Rows.{senseOf}
-use Rattle.words.specs.Words.{begunBy, wordAt, testedCommand, testedWord, tested}
-use Rattle.words.specs.Status.{stored, statusFor, channelFor, programCheck}
-use Rattle.pack.specs.Shapes.{packFits, seekTo, seekHead}
-use Rattle.pack.specs.Tracks.{startOf, trackAt}
+use Rattle.words.specs.Words.{begunBy, wordAt, testedCommand, testedWord, tested, stored, statusFor, channelFor, programCheck}
+use Rattle.pack.specs.Pack.{packFits, seekTo, seekHead, startOf, trackAt}
 use Rattle.compare.specs.Compare.{compared}
 use Rattle.held.specs.Held.{freshPosition, freshOrders, freshChannel, fresh, rested}
 use Rattle.turn.specs.Turn.{positionAt, withSense, positionSought, ordersOf, after}
-use Rattle.command.specs.Command.{areaIf, named, namedBy, seenWith, idOf, countMoved}
-use Rattle.command.specs.Command.{equalId, equalIdOrKey, homeDone, recordWritten}
-use Rattle.command.specs.Command.{satisfies, found, equalOnly}
+use Rattle.command.specs.Command.{areaIf, named, namedBy, seenWith, idOf, countMoved, equalId, equalIdOrKey, homeDone, recordWritten, satisfies, found, equalOnly}
 use Rattle.format.specs.Format.{newCounts, newKey, newData, newRecord, recorded}
 use Rattle.channel.specs.Channel.{unitStatus, endsWell, stride, onward}
 use Rattle.table.specs.Table as Table
@@ -34,7 +27,7 @@ use Rattle.sound.specs.Tracks.{trackOf, homeWith, countWith, usualR0, homeAndR0
 
 -- a track, its areas and whether it is soundly written
 unfoldable pub track : Unit {0}
-unfolding part overlay padded numberFrom bytesOf cellsOf allBytes marksFrom marks Check.bitStep Check.feed Check.byteBits Check.bits Check.check Area.agrees Area.goodCells Area.withCheck Area.cellsWithCheck areaCells readable areaBytes rowOf countsOf countsAt readCount keyCells keyArea dataArea recordCells endBy needed flagOfR0 flagAfter scan hunt countFirst spotFits pastIndex aheadOr nextRecord nextId spacedTo spaceRecord roomLeft fits allGaps oneZero recordOk recordsOk soundly trackOf homeWith countWith usualR0 homeAndR0
+unfolding part overlay padded numberFrom bytesOf cellsOf allBytes marksFrom marks House.bitStep House.feed House.byteBits House.bits House.check House.agrees House.goodCells House.withCheck House.cellsWithCheck areaCells readable areaBytes rowOf countsOf countsAt readCount keyCells keyArea dataArea recordCells endBy needed flagOfR0 flagAfter scan hunt countFirst spotFits pastIndex aheadOr nextRecord nextId spacedTo spaceRecord roomLeft fits allGaps oneZero recordOk recordsOk soundly trackOf homeWith countWith usualR0 homeAndR0
 track = tt
 
 -- a command

@@ -10,7 +10,7 @@ use lib.ListN.{length, getD, set, length-set}
 use lib.Seq.{getD-set-same, getD-set-other}
 use lib.Dec.{lit<}
 use Rattle.cells.specs.Cells.{isByte, cellOf, bytesOf}
-use Rattle.house_check.specs.Area.{Burst, window}
+use Rattle.house_check.specs.Check.{Burst, window}
 use Rattle.house_check.proofs.Burst.{burst-parts}
 use Rattle.areas.specs.declared.{Area.Area}
 use Rattle.areas.specs.Areas.{areaCells, readable}

@@ -11,33 +11,26 @@ use lib.ListN.{drop, length-take, length-drop}
 use lib.Seq.{take-nil, getD-take, getD-drop, ext-getD}
 use lib.Dec.{eqb}
 use borrow.Author.Tests.{eq-eqb, ne-eqb}
-use Rattle.table.specs.Table.{isWrite}
-use Rattle.cells.specs.Choice.{both}
-use Rattle.cells.specs.Bytes.{part, overlay}
-use Rattle.cells.specs.Cells.{trackCells, marks}
+use Rattle.table.specs.Table.{isWrite, ruleOf}
+use Rattle.cells.specs.Cells.{both, part, overlay, trackCells, marks}
 use Rattle.cells.proofs.Laws.{overlay-none}
 use Rattle.cells.proofs.Marks.{both-never}
 use Rattle.cells.proofs.Tests.{second-of, second-picked}
 use Rattle.rows.specs.declared.{Sense.Sense}
-use Rattle.rows.specs.Rows.{senseOf}
+use Rattle.rows.specs.Rows.{senseOf, rowTakes}
 use Rattle.words.specs.declared.{Word.Word, Tested.Tested}
 use Rattle.words.specs.declared.Tested.the-variants.{Obey, Jump, Bad}
-use Rattle.words.specs.Words.{chains}
-use Rattle.words.specs.Status.{stored, statusFor}
+use Rattle.words.specs.Words.{chains, stored, statusFor}
 use Rattle.areas.specs.declared.{Part.Part, Area.Area}
 use Rattle.areas.specs.Areas.{rowOf}
 use Rattle.pack.specs.declared.{Head.Head, Shape.Shape}
-use Rattle.pack.specs.Tracks.{trackNo, startOf, trackAt}
+use Rattle.pack.specs.Pack.{trackNo, startOf, trackAt}
 use Rattle.held.specs.declared.{Position.Position, Orders.Orders, Channel.Channel, Held.Held}
 use Rattle.held.specs.Held.{rested}
-use Rattle.turn.specs.Turn.{withSense}
-use Rattle.channel.specs.Channel.{unitStatus, endsWell}
+use Rattle.turn.specs.Turn.{withSense, TrackArea, Piece, given, transferOf, wants, Turn, reportOf, isCheck, checkTurn}
+use Rattle.channel.specs.Channel.{unitStatus, endsWell, fetched, placed, bytesMoved, movesAny, lengthCounts, wrongLength, goesOn, heldAfter, statusAfter, withStatus, storageAfter}
 use Rattle.command.specs.Command.{SelectedOn}
-use Rattle.table.specs.Table.{ruleOf}
-use Rattle.turn.specs.Turn.{TrackArea, Piece, given, transferOf, wants, Turn, reportOf, isCheck, checkTurn}
-use Rattle.rows.specs.Rows.{rowTakes}
 use Rattle.claim_frame.proofs.Turns.{only-writes-lay}
-use Rattle.channel.specs.Channel.{fetched, placed, bytesMoved, movesAny, lengthCounts, wrongLength, goesOn, heldAfter, statusAfter, withStatus, storageAfter}
 use Rattle.chain.specs.Step.{World, world, under, trackUnder, next, tracksOf, layOn, stops, turnOf, settled, obeyed, stepBy, step, testedReads, wordReads, testedWrites}
 use Rattle.chain.specs.Legal.{Legal}
 use Rattle.chain.proofs.Fits.{selected-on}

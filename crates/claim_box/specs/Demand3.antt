@@ -8,19 +8,17 @@ use mathlib.Core.List.{List, [], _∷_}
 use mathlib.Core.Logic.{_⊎_}
 use lib.ListN.{length, getD}
 use lib.Dec.{eqb}
-use Rattle.cells.specs.Choice.{pick, both}
-use Rattle.cells.specs.Cells.{trackCells, gap}
+use Rattle.cells.specs.Cells.{pick, both, trackCells, gap}
 use Rattle.rows.specs.declared.{Sense.Sense}
 use Rattle.rows.specs.Rows.{sense}
 use Rattle.words.specs.declared.{Word.Word, Tested.Tested}
-use Rattle.words.specs.Status.{stored, statusFor}
+use Rattle.words.specs.Words.{stored, statusFor}
 use Rattle.areas.specs.declared.{Part.Part, Area.Area}
 use Rattle.pack.specs.declared.{Cylinder.Cylinder, Shape.Shape}
-use Rattle.pack.specs.Tracks.{trackNo, trackAt}
+use Rattle.pack.specs.Pack.{trackNo, trackAt}
 use Rattle.held.specs.declared.{Held.Held}
 use Rattle.held.specs.Held.{rested}
-use Rattle.turn.specs.Turn.{withSense}
-use Rattle.turn.specs.Turn.{TrackArea}
+use Rattle.turn.specs.Turn.{withSense, TrackArea}
 use Rattle.chain.specs.Step.{World, world, next, step, run, wordReads, testedWrites}
 use Rattle.sound.specs.Sound.{Sound}
 use Rattle.claim_damage.specs.Damage.{Own, Damaged, any, sameArea}

@@ -5,19 +5,17 @@ use mathlib.Core.Bool.{true, false}
 use mathlib.Core.List.{List, [], _∷_, _++_}
 use lib.IntN.{pos, negsuc}
 use lib.ListN.{length, replicate}
-use Rattle.cells.specs.Bytes.{number, part, overlay}
-use Rattle.cells.specs.Cells.{trackCells}
-use Rattle.house_check.specs.Area.{cellsWithCheck}
+use Rattle.cells.specs.Cells.{number, part, overlay, trackCells}
+use Rattle.house_check.specs.Check.{cellsWithCheck}
 use Rattle.areas.specs.declared.{Counts.Counts}
 use Rattle.areas.specs.Areas.{r0First, endBy, needed}
 use Rattle.room.specs.Room.{roomLeft, fits}
 use Rattle.mask.specs.Mask.{legal}
 use Rattle.rows.specs.declared.{Row.Row}
 use Rattle.rows.specs.Rows.{sense}
-use Rattle.words.specs.Words.{addressWord}
-use Rattle.words.specs.Status.{statusAt}
+use Rattle.words.specs.Words.{addressWord, statusAt}
 use Rattle.pack.specs.declared.{Shape.Shape, Sought.Sought}
-use Rattle.pack.specs.Shapes.{cylinder, head, seekTo, seekHead}
+use Rattle.pack.specs.Pack.{cylinder, head, seekTo, seekHead}
 use Rattle.compare.specs.declared.{Compared.Compared}
 use Rattle.compare.specs.Compare.{compared}
 use Rattle.held.specs.declared.{Position.Position}

@@ -7,7 +7,7 @@ use Rattle.cells.specs.Cells.{trackCells}
 use Rattle.areas.specs.Areas.{endBy, needed}
 use Rattle.room.specs.Room.{roomLeft, fits}
 use Rattle.pack.specs.declared.{Shape.Shape}
-use Rattle.pack.specs.Shapes.{packFits}
+use Rattle.pack.specs.Pack.{packFits}
 use Rattle.claim_box.specs.Figures.{lengths}
 
 abbrev pub shapeOf : ℕ → ℕ → Shape

@@ -6,7 +6,7 @@ use mathlib.Core.Path.{_≡_}
 use mathlib.Core.List.{List, [], _∷_, _++_}
 use lib.IntN.{negsuc}
 use lib.ListN.{replicate}
-use Rattle.house_check.specs.Area.{cellsWithCheck}
+use Rattle.house_check.specs.Check.{cellsWithCheck}
 use Rattle.areas.specs.Areas.{r0First, endBy, needed}
 use Rattle.room.specs.Room.{roomLeft}
 use Rattle.rows.specs.Rows.{sense}

@@ -6,12 +6,10 @@ use mathlib.Core.Path.{_≡_}
 use mathlib.Core.Bool.{Bool, true, false}
 use mathlib.Core.List.{List, [], _∷_, _++_, map}
 use lib.ListN.{set, replicate}
-use Rattle.cells.specs.Choice.{pick, either}
-use Rattle.cells.specs.Bytes.{part, overlay}
-use Rattle.cells.specs.Cells.{marker, cellOf}
-use Rattle.house_check.specs.Area.{cellsWithCheck}
+use Rattle.cells.specs.Cells.{pick, either, part, overlay, marker, cellOf}
+use Rattle.house_check.specs.Check.{cellsWithCheck}
 use Rattle.rows.specs.Rows.{sense}
-use Rattle.words.specs.Status.{statusAt}
+use Rattle.words.specs.Words.{statusAt}
 use Rattle.areas.specs.declared.{Area.Area, Part.Part}
 use Rattle.areas.specs.Areas.{area, homeArea, r0First, countArea}
 use Rattle.held.specs.Held.{fresh}

@@ -5,8 +5,7 @@ use mathlib.Core.Bool.{Bool, true, false}
 use mathlib.Core.List.{List}
 use native.Mathlib.Omega.{arith}
 use lib.ListN.{length, getD}
-use Rattle.cells.specs.Choice.{pick}
-use Rattle.cells.specs.Cells.{trackCells}
+use Rattle.cells.specs.Cells.{pick, trackCells}
 use Rattle.cells.proofs.Tests.{pick-all}
 use Rattle.words.specs.declared.{Begun.Begun, Tested.Tested}
 use Rattle.words.specs.declared.Begun.the-variants.{Begins, Refused}

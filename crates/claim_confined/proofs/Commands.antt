@@ -7,9 +7,8 @@ use mathlib.Core.List.{List, []}
 use native.Mathlib.Omega.{arith}
 use lib.ListN.{length, getD, take, length-take}
 use lib.Seq.{take-nil}
-use Rattle.table.specs.Table.{isWrite}
-use Rattle.cells.specs.Choice.{both}
-use Rattle.cells.specs.Bytes.{overlay}
+use Rattle.table.specs.Table.{isWrite, ruleOf}
+use Rattle.cells.specs.Cells.{both, overlay}
 use Rattle.cells.proofs.Laws.{overlay-none}
 use Rattle.words.specs.declared.{Word.Word}
 use Rattle.areas.specs.declared.{Counts.Counts}
@@ -17,7 +16,6 @@ use Rattle.hunt.specs.Hunt.{WholeTrack}
 use Rattle.pack.specs.declared.{Shape.Shape}
 use Rattle.held.specs.declared.{Selection.Selection, Position.Position, Orders.Orders}
 use Rattle.table.specs.declared.{Write.Write, Act.Act, Rule.Rule}
-use Rattle.table.specs.Table.{ruleOf}
 use Rattle.turn.specs.Turn.{Tracks, Piece, Moves, None, Gives, Takes, given, transferOf, wants, Turn, reportOf, lay, isCheck, checkTurn}
 use Rattle.command.specs.declared.{Task.Task}
 use Rattle.command.specs.Command.{Sight, sight, allRecorded, goesOver, writesOver, writeTurn, actTurn, jobOf, command}

@@ -9,8 +9,7 @@ use native.Mathlib.Decide.{decLt}
 use lib.ListN.{length, getD}
 use lib.Dec.{ltb, leb}
 use borrow.Author.Tests.{ltb-true, ltb-false, leb-true, le-leb, lt-leb, le-ltb}
-use Rattle.cells.specs.Choice.{pick, both, either}
-use Rattle.cells.specs.Bytes.{overlay}
+use Rattle.cells.specs.Cells.{pick, both, either, overlay}
 use Rattle.cells.proofs.Laws.{getD-part, part-overlay, overlay-before, overlay-behind}
 use Rattle.cells.proofs.Tests.{first-of, second-of}
 use Rattle.claim_confined.specs.Confined.{among}

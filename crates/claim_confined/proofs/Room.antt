@@ -5,13 +5,12 @@ use mathlib.Core.Path.{_≡_, refl, sym, ap, _∙_}
 use mathlib.Core.Bool.{true, false, false≢true}
 use mathlib.Core.List.{List, []}
 use lib.Dec.{ltb}
-use Rattle.cells.specs.Choice.{pick, both}
+use Rattle.cells.specs.Cells.{pick, both}
 use Rattle.cells.proofs.Tests.{first-of, first-picked, second-picked}
 use Rattle.rows.specs.declared.{Row.Row}
-use Rattle.rows.specs.Rows.{senseOf}
+use Rattle.rows.specs.Rows.{senseOf, rowTakes}
 use Rattle.areas.specs.declared.{Counts.Counts}
-use Rattle.areas.specs.Areas.{homeFlag, r0First, countsOf, countsAt, keyCells, recordCells, endBy, needed}
-use Rattle.areas.specs.Flags.{flagOfR0, flagAfter}
+use Rattle.areas.specs.Areas.{homeFlag, r0First, countsOf, countsAt, keyCells, recordCells, endBy, needed, flagOfR0, flagAfter}
 use Rattle.hunt.specs.declared.{Spot.Spot}
 use Rattle.hunt.specs.Hunt.{countFirst}
 use Rattle.room.specs.Room.{fits}
@@ -20,15 +19,12 @@ use Rattle.held.specs.declared.{Selection.Selection, Position.Position, Orders.
 use Rattle.held.specs.declared.Selection.the-variants.{Nothing, On}
 use Rattle.command.specs.declared.{Got.Got, Task.Task, Plan.Plan}
 use Rattle.command.specs.declared.Got.the-variants.{Sees}
-use Rattle.command.specs.Command.{mostTally}
-use Rattle.turn.specs.Turn.{withSense, positionAt}
+use Rattle.command.specs.Command.{mostTally, marksOf, licensed, task, tallies, onRecord, onSelected, aimed, planOf, areasOf, gets, Sight, areasRead, sight, failTurn, newTurn, r0Turn, recordTurn, writeTurn, actTurn, jobOf, hasRead, readyBy, planReads, readyTurn, ruleTurn, command}
+use Rattle.turn.specs.Turn.{withSense, positionAt, Tracks, transferOf, wants, Turn, reportOf, checkTurn}
 use Rattle.format.specs.Format.{newCounts}
 use Rattle.table.specs.declared.{Write.Write, Act.Act, Rule.Rule}
 use Rattle.table.specs.Table.{ruleOf}
-use Rattle.turn.specs.Turn.{Tracks, transferOf, wants, Turn, reportOf, checkTurn}
-use Rattle.rows.specs.Rows.{rowTakes}
 use Rattle.command.specs.declared.Plan.the-variants.{Refuses, Works}
-use Rattle.command.specs.Command.{marksOf, licensed, task, tallies, onRecord, onSelected, aimed, planOf, areasOf, gets, Sight, areasRead, sight, failTurn, newTurn, r0Turn, recordTurn, writeTurn, actTurn, jobOf, hasRead, readyBy, planReads, readyTurn, ruleTurn, command}
 use Rattle.channel.specs.Channel.{bytesMoved}
 use Rattle.claim_confined.specs.Confined as Confined
 use Rattle.claim_confined.specs.Confined.{bars, hasRoom, NoRowBefore, RoomKept}

@@ -9,18 +9,16 @@ use native.Mathlib.Decide.{decLt}
 use lib.ListN.{getD}
 use lib.Dec.{eqb}
 use borrow.Author.Tests.{not-true, eqb-false}
-use Rattle.table.specs.Table.{isWrite}
-use Rattle.cells.specs.Choice.{pick, both}
-use Rattle.cells.specs.Cells.{trackCells}
+use Rattle.table.specs.Table.{isWrite, ruleOf}
+use Rattle.cells.specs.Cells.{pick, both, trackCells}
 use Rattle.cells.proofs.Marks.{both-never}
 use Rattle.cells.proofs.Tests.{first-of, second-of}
 use Rattle.words.specs.declared.{Tested.Tested}
 use Rattle.words.specs.declared.Tested.the-variants.{Obey, Jump, Bad}
 use Rattle.pack.specs.declared.{Shape.Shape}
-use Rattle.pack.specs.Tracks.{trackNo, startOf}
+use Rattle.pack.specs.Pack.{trackNo, startOf}
 use Rattle.held.specs.declared.{Selection.Selection, Orders.Orders}
 use Rattle.table.specs.declared.{Act.Act, Rule.Rule}
-use Rattle.table.specs.Table.{ruleOf}
 use Rattle.command.specs.Command.{licensed}
 use Rattle.chain.specs.Step.{World, under, trackUnder, next, step, run, testedWrites}
 use Rattle.chain.specs.Legal.{Legal}

@@ -6,17 +6,15 @@ use mathlib.Core.Bool.{Bool, true, false, not}
 use mathlib.Core.List.{List}
 use native.Mathlib.Omega.{arith}
 use lib.ListN.{length, getD, length-take}
-use Rattle.cells.specs.Choice.{pick, both}
-use Rattle.cells.specs.Bytes.{overlay}
-use Rattle.cells.specs.Cells.{trackCells}
+use Rattle.cells.specs.Cells.{pick, both, overlay, trackCells}
 use Rattle.cells.proofs.Laws.{getD-part, length-overlay, overlay-same}
 use Rattle.rows.specs.declared.{Row.Row}
 use Rattle.words.specs.declared.{Word.Word, Status.Status, Tested.Tested}
 use Rattle.words.specs.declared.Tested.the-variants.{Obey, Jump, Bad}
-use Rattle.words.specs.Status.{statusAt, statusBytes, stored}
+use Rattle.words.specs.Words.{statusAt, statusBytes, stored}
 use Rattle.words.proofs.Obeys.{TestedIn, tested-in}
 use Rattle.pack.specs.declared.{Shape.Shape}
-use Rattle.pack.specs.Tracks.{trackAt, withTrack}
+use Rattle.pack.specs.Pack.{trackAt, withTrack}
 use Rattle.pack.proofs.Laws.{others-kept}
 use Rattle.turn.specs.declared.Ending.the-variants.{Check}
 use Rattle.table.specs.Table.{ruleOf}

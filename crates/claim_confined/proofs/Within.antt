@@ -8,24 +8,20 @@ use native.Mathlib.Omega.{arith}
 use lib.ListN.{length, getD}
 use lib.Dec.{ltb, leb}
 use borrow.Author.Tests.{ltb-true, lt-ltb, le-leb}
-use Rattle.cells.specs.Choice.{both, either}
-use Rattle.cells.specs.Bytes.{part, padded, overlay}
-use Rattle.cells.specs.Cells.{trackCells}
+use Rattle.cells.specs.Cells.{both, either, part, padded, overlay, trackCells}
 use Rattle.cells.proofs.Laws.{length-overlay}
 use Rattle.cells.proofs.Tests.{both-of}
-use Rattle.house_check.specs.Area as Area
-use Rattle.areas.specs.declared.{Area.Area, Counts.Counts}
-use Rattle.areas.specs.Areas.{homeBytes, r0First, keyArea, dataArea, endBy, needed}
-use Rattle.areas.specs.Flags.{flagAfter}
+use Rattle.house_check.specs.Check as House
+use Rattle.areas.specs.declared.{House.Area, Counts.Counts}
+use Rattle.areas.specs.Areas.{homeBytes, r0First, keyArea, dataArea, endBy, needed, flagAfter}
 use Rattle.room.specs.Room.{fits}
 use Rattle.room.proofs.Laws.{fits-ends}
 use Rattle.pack.specs.declared.{Head.Head}
-use Rattle.command.specs.Command.{named}
+use Rattle.command.specs.Command.{named, Sight, writesOver, allRecorded, failTurn, endTurn, endTurnAt, piece, toEnd, homeTurn, newTurn, r0Turn, recordTurn, overPiece, keySent, updateTurn, writeTurn}
 use Rattle.format.proofs.Laws.{length-area, length-new}
 use Rattle.table.specs.declared.{Write.Write}
 use Rattle.turn.specs.Turn.{Piece, Turn, lay, checkTurn}
 use Rattle.command.specs.declared.{Task.Task}
-use Rattle.command.specs.Command.{Sight, writesOver, allRecorded, failTurn, endTurn, endTurnAt, piece, toEnd, homeTurn, newTurn, r0Turn, recordTurn, overPiece, keySent, updateTurn, writeTurn}
 use Rattle.command.proofs.Pieces.{length-to-end, Over, over-in}
 use Rattle.claim_frame.specs.Frame.{LaysUnder}
 use Rattle.claim_confined.specs.Confined.{among, inArea, inKey, inData, reaches, OnTrack}
@@ -128,7 +124,7 @@ module _ (x : Sight) where
       → Within (reaches k (x .job .task .place) (x .job .counts)) (writeTurn k x .lays)
   unfolding writeTurn homeTurn r0Turn recordTurn endTurn endTurnAt reaches needed writesOver
   write-within t e Write.HomeAddress rec =
-      format-within _ 0 (Area.cellsWithCheck (padded homeBytes (x .sent))) (omega (arith, length-area homeBytes (x .sent))) (λ i h. le-leb 0 i h)
+      format-within _ 0 (House.cellsWithCheck (padded homeBytes (x .sent))) (omega (arith, length-area homeBytes (x .sent))) (λ i h. le-leb 0 i h)
   write-within t e Write.R0 rec = new-within (x .job .task) r0First _ _ _ (length-new _ (x .sent))
   write-within t e Write.CountKeyData rec =
       new-within _ (endBy (x .job .task .place) (x .job .counts)) _ _ _ (omega (arith, length-new (flagAfter (x .job .counts .flag)) (x .sent)))

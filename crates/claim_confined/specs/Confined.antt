@@ -10,23 +10,20 @@ use mathlib.Core.List.{List, [], _∷_}
 use mathlib.Core.Logic.{_⊎_}
 use lib.ListN.{length, getD}
 use lib.Dec.{ltb, leb, eqb}
-use Rattle.cells.specs.Choice.{pick, both, either}
-use Rattle.cells.specs.Cells.{trackCells, gap}
+use Rattle.cells.specs.Cells.{pick, both, either, trackCells, gap}
 use Rattle.rows.specs.declared.{Row.Row}
 use Rattle.rows.specs.Rows.{sense}
 use Rattle.mask.specs.Mask.{barsSeek, barsWrite}
 use Rattle.words.specs.declared.{Word.Word, Tested.Tested}
-use Rattle.words.specs.Words.{wordBytes}
-use Rattle.words.specs.Status.{statusAt}
-use Rattle.house_check.specs.Area.{checkBytes}
+use Rattle.words.specs.Words.{wordBytes, statusAt}
+use Rattle.house_check.specs.Check.{checkBytes}
 use Rattle.areas.specs.declared.{Area.Area, Counts.Counts}
-use Rattle.areas.specs.Areas.{homeArea, homeFlag, r0First, countsAt, keyArea, dataArea, recordCells, endBy, needed}
-use Rattle.areas.specs.Flags.{flagOfR0, flagAfter}
+use Rattle.areas.specs.Areas.{homeArea, homeFlag, r0First, countsAt, keyArea, dataArea, recordCells, endBy, needed, flagOfR0, flagAfter}
 use Rattle.hunt.specs.declared.{Spot.Spot}
 use Rattle.hunt.specs.Hunt.{WholeTrack, countFirst}
 use Rattle.room.specs.Room.{fits}
 use Rattle.pack.specs.declared.{Head.Head, Shape.Shape}
-use Rattle.pack.specs.Tracks.{trackNo}
+use Rattle.pack.specs.Pack.{trackNo}
 use Rattle.held.specs.declared.{Selection.Selection, Position.Position, Orders.Orders}
 use Rattle.command.specs.declared.{Got.Got}
 use Rattle.turn.specs.declared.{Ending.Ending}

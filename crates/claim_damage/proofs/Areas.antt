@@ -15,7 +15,7 @@ use Rattle.cells.specs.Cells.{isByte, bytesOf, allBytes, markAt}
 use Rattle.cells.proofs.Laws.{getD-part}
 use Rattle.cells.proofs.Marks.{getD-marks}
 use Rattle.cells.proofs.Tests.{first-of, second-of}
-use Rattle.house_check.specs.Area.{checkBytes, agrees, goodCells}
+use Rattle.house_check.specs.Check.{checkBytes, agrees, goodCells}
 use Rattle.areas.specs.declared.{Area.Area}
 use Rattle.areas.specs.Areas.{areaCells, readable, homeArea, countArea, countsAt, keyArea, dataArea, recordCells, endBy}
 use Rattle.areas.proofs.Laws.{no-key, some-key}

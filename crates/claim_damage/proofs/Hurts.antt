@@ -12,8 +12,7 @@ use lib.ListN.{length}
 use lib.Seq.{ext-getD}
 use lib.Dec.{eqb, leb}
 use borrow.Author.Tests.{eqb-true, eq-eqb}
-use Rattle.cells.specs.Choice.{both}
-use Rattle.cells.specs.Cells.{markAt, marks}
+use Rattle.cells.specs.Cells.{both, markAt, marks}
 use Rattle.cells.proofs.Marks.{length-marks, getD-marks, mark-none}
 use Rattle.cells.proofs.Tests.{first-of, second-of, both-of}
 use Rattle.house_check.proofs.Cells.{burst-cells}

@@ -7,7 +7,7 @@ use mathlib.Core.List.{List}
 use native.Mathlib.Omega.{arith}
 use lib.Dec.{ltb}
 use borrow.Author.Tests.{ltb-false, not-true}
-use Rattle.cells.specs.Choice.{pick, both, either}
+use Rattle.cells.specs.Cells.{pick, both, either}
 use Rattle.cells.proofs.Tests.{pick-all}
 use Rattle.rows.specs.declared.{Row.Row}
 use Rattle.mask.specs.Mask.{barsSeek, barsWrite}
@@ -16,13 +16,12 @@ use Rattle.hunt.specs.Hunt.{spotFits, countFirst}
 use Rattle.hunt.proofs.Inside.{NextOn, next-on, id-on}
 use Rattle.held.specs.declared.{Selection.Selection, Position.Position, Orders.Orders}
 use Rattle.held.specs.declared.Selection.the-variants.{Nothing, On}
-use Rattle.command.specs.Command.{homePlace, mostTally, SelectedOn}
+use Rattle.command.specs.Command.{homePlace, mostTally, SelectedOn, Marks, licensed, task, tallies, onRecord, onNext, onSelected, toNext, toServed, aimed, unlessBarred, planOf}
 use Rattle.table.specs.declared.{Bar.Bar, Aim.Aim, Names.Names, Rule.Rule}
 use Rattle.table.specs.Table.{controls, searches, reads, writes, ruleOf}
 use Rattle.table.proofs.Laws.{each, every, of-every}
 use Rattle.command.specs.declared.{Plan.Plan}
 use Rattle.command.specs.declared.Plan.the-variants.{Refuses, Works}
-use Rattle.command.specs.Command.{Marks, licensed, task, tallies, onRecord, onNext, onSelected, toNext, toServed, aimed, unlessBarred, planOf}
 
 -- ---- by the table
 

@@ -8,9 +8,8 @@ use mathlib.Core.Logic.{inl, inr}
 use native.Mathlib.Omega.{arith}
 use lib.Dec.{ltb}
 use borrow.Author.Tests.{ltb-true}
-use Rattle.table.specs.Table.{isWrite}
-use Rattle.cells.specs.Choice.{either}
-use Rattle.cells.specs.Cells.{marks}
+use Rattle.table.specs.Table.{isWrite, ruleOf}
+use Rattle.cells.specs.Cells.{either, marks}
 use Rattle.cells.proofs.Tests.{pick-all, second-of}
 use Rattle.areas.specs.declared.{Area.Area, Counts.Counts, CountRead.CountRead}
 use Rattle.areas.specs.Areas.{readable, rowOf, countArea, countsAt, readCount, keyArea, dataArea}
@@ -18,13 +17,10 @@ use Rattle.hunt.specs.declared.{Spot.Spot}
 use Rattle.hunt.specs.Hunt.{countFirst}
 use Rattle.pack.specs.declared.{Head.Head, Shape.Shape}
 use Rattle.held.specs.declared.{Position.Position, Orders.Orders}
-use Rattle.command.specs.Command.{areaIf, named, namedBy}
-use Rattle.command.specs.Command.{SelectedOn}
+use Rattle.command.specs.Command.{areaIf, named, namedBy, SelectedOn, marksOf, onHead, areasOf, planReads, command}
 use Rattle.table.specs.declared.{Names.Names, Rule.Rule}
-use Rattle.table.specs.Table.{ruleOf}
 use Rattle.turn.specs.Turn.{Tracks, TrackArea, checkTurn}
 use Rattle.command.specs.declared.{Plan.Plan}
-use Rattle.command.specs.Command.{marksOf, onHead, areasOf, planReads, command}
 use Rattle.claim_frame.specs.Frame.{AllSame, Breaks, ReadsUnder}
 use Rattle.claim_frame.proofs.Turns.{command-reads}
 use Rattle.claim_frame.proofs.Kept.{still-kept}

@@ -6,9 +6,8 @@ use mathlib.Core.Bool.{Bool, true, false}
 use mathlib.Core.List.{List, [], _∷_}
 use lib.ListN.{length, getD}
 use lib.Dec.{eqb}
-use Rattle.cells.specs.Choice.{both, either}
-use Rattle.cells.specs.Cells.{gap, isByte, bytesOf, marks}
-use Rattle.house_check.specs.Area.{checkBytes, Burst, window}
+use Rattle.cells.specs.Cells.{both, either, gap, isByte, bytesOf, marks}
+use Rattle.house_check.specs.Check.{checkBytes, Burst, window}
 use Rattle.areas.specs.declared.{Part.Part, Area.Area}
 use Rattle.areas.specs.Areas.{areaCells, homeArea, countArea, keyArea, dataArea, countsAt}
 use Rattle.hunt.specs.declared.{Spot.Spot}

@@ -7,7 +7,7 @@ use mathlib.Core.List.{List, [], _∷_, _++_}
 use lib.ListN.{getD}
 use lib.Dec.{ltb, eqb}
 use Rattle.table.specs.Table.{isWrite}
-use Rattle.cells.specs.Choice.{both}
+use Rattle.cells.specs.Cells.{both}
 use Rattle.cells.proofs.Tests.{pick-all}
 use Rattle.rows.specs.declared.{Row.Row}
 use Rattle.mask.specs.Mask.{legal}

@@ -5,7 +5,7 @@ use mathlib.Core.Path.{_≡_, refl, sym, ap, _∙_, subst}
 use mathlib.Core.Bool.{Bool}
 use mathlib.Core.List.{List, [], _∷_}
 use lib.Dec.{ltb}
-use Rattle.cells.specs.Choice.{pick, both}
+use Rattle.cells.specs.Cells.{pick, both}
 use Rattle.cells.proofs.Tests.{pick-all}
 use Rattle.rows.specs.declared.{Row.Row}
 use Rattle.mask.specs.Mask.{barsSeek, barsWrite}
@@ -15,14 +15,12 @@ use Rattle.hunt.specs.declared.{Spot.Spot, Next.Next}
 use Rattle.pack.specs.declared.{Head.Head, Shape.Shape}
 use Rattle.held.specs.declared.{Selection.Selection, Position.Position, Orders.Orders}
 use Rattle.held.specs.declared.Selection.the-variants.{Nothing, On}
-use Rattle.command.specs.Command.{namedBy}
-use Rattle.command.specs.Command.{mostTally}
+use Rattle.command.specs.Command.{namedBy, mostTally, Marks, marksOf, licensed, task, tallies, onRecord, onNext, onSelected, toNext, toServed, aimed, unlessBarred, planOf, onHead, areasOf, planReads, ruleTurn, command}
 use Rattle.table.specs.declared.{Bar.Bar, Aim.Aim, Names.Names, Rule.Rule}
 use Rattle.table.specs.Table.{ruleOf}
 use Rattle.turn.specs.Turn.{Tracks, alone, TrackArea}
 use Rattle.command.specs.declared.{Plan.Plan}
 use Rattle.command.specs.declared.Plan.the-variants.{Refuses, Works}
-use Rattle.command.specs.Command.{Marks, marksOf, licensed, task, tallies, onRecord, onNext, onSelected, toNext, toServed, aimed, unlessBarred, planOf, onHead, areasOf, planReads, ruleTurn, command}
 use Rattle.claim_frame.specs.Frame.{AllSame, planHead, ReadsUnder, LaysUnder}
 use Rattle.claim_frame.proofs.Turns.{planTurn, command-reads, command-lays}
 use Rattle.claim_frame.proofs.Kept.{Agrees, plan-kept}

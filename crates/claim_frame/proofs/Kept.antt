@@ -5,23 +5,20 @@ use mathlib.Core.Path.{_≡_, refl, ap, ap₂, _∙_, subst}
 use mathlib.Core.Bool.{Bool, true≢false, false}
 use mathlib.Core.List.{List, [], _∷_}
 use lib.ListN.{take}
-use Rattle.table.specs.Table.{isWrite}
-use Rattle.cells.specs.Choice.{pick, both}
-use Rattle.cells.specs.Cells.{bytesOf, marks}
-use Rattle.house_check.specs.Area.{goodCells}
+use Rattle.table.specs.Table.{isWrite, ruleOf}
+use Rattle.cells.specs.Cells.{pick, both, bytesOf, marks}
+use Rattle.house_check.specs.Check.{goodCells}
 use Rattle.areas.specs.declared.{Area.Area, Counts.Counts, CountRead.CountRead}
 use Rattle.areas.specs.Areas.{readable, areaBytes, rowOf, countArea, countsOf, countsAt, readCount}
 use Rattle.pack.specs.declared.{Head.Head, Shape.Shape}
 use Rattle.held.specs.declared.{Position.Position, Orders.Orders}
 use Rattle.command.specs.declared.{Got.Got, Task.Task, Plan.Plan, Job.Job}
 use Rattle.command.specs.declared.Got.the-variants.{Sees, Fails}
-use Rattle.command.specs.Command.{namedBy, seenWith}
+use Rattle.command.specs.Command.{namedBy, seenWith, marksOf, planOf, onHead, areasOf, allRead, countsIn, gets, seenOf, goesOver, allRecorded, areasRead, sight, actTurn, jobOf, hasRead, readyBy, planReads, readyTurn, ruleTurn, command}
 use Rattle.format.specs.Format.{recorded}
 use Rattle.table.specs.declared.{Names.Names, Act.Act, Rule.Rule}
-use Rattle.table.specs.Table.{ruleOf}
 use Rattle.turn.specs.Turn.{Tracks, TrackArea, checkTurn}
 use Rattle.command.specs.declared.Plan.the-variants.{Refuses, Works}
-use Rattle.command.specs.Command.{marksOf, planOf, onHead, areasOf, allRead, countsIn, gets, seenOf, goesOver, allRecorded, areasRead, sight, actTurn, jobOf, hasRead, readyBy, planReads, readyTurn, ruleTurn, command}
 use Rattle.claim_frame.specs.Frame.{Same, AllSame, planHead}
 use Rattle.claim_frame.proofs.Turns.{planTurn, command-reads}
 

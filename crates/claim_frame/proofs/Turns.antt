@@ -4,13 +4,12 @@ use Prim.Native.Nat.{ℕ}
 use mathlib.Core.Path.{_≡_}
 use mathlib.Core.Bool.{true, false}
 use mathlib.Core.List.{List, []}
-use Rattle.table.specs.Table.{isWrite}
+use Rattle.table.specs.Table.{isWrite, ruleOf}
 use Rattle.pack.specs.declared.{Shape.Shape}
 use Rattle.held.specs.declared.{Position.Position, Orders.Orders}
 use Rattle.command.specs.declared.{Got.Got, Task.Task, Plan.Plan}
 use Rattle.command.specs.declared.Got.the-variants.{Sees, Fails}
 use Rattle.table.specs.declared.{Rule.Rule}
-use Rattle.table.specs.Table.{ruleOf}
 use Rattle.turn.specs.Turn.{Tracks, Turn, given, isCheck}
 use Rattle.command.specs.declared.Plan.the-variants.{Refuses, Works}
 use Rattle.command.specs.Command.{marksOf, planOf, areasOf, areasRead, sight, jobOf, hasRead, readyBy, planReads, readyTurn, ruleTurn, command}

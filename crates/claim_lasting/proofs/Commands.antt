@@ -8,18 +8,15 @@ use mathlib.Core.List.{List, [], _∷_, _++_}
 use native.Mathlib.Omega.{arith}
 use lib.ListN.{length}
 use lib.Dec.{eqb}
-use Rattle.cells.specs.Choice.{pick, both}
-use Rattle.cells.specs.Bytes.{padded}
-use Rattle.cells.specs.Cells.{trackCells, marker, marks}
+use Rattle.cells.specs.Cells.{pick, both, padded, trackCells, marker, marks}
 use Rattle.cells.proofs.Numbers.{Bytes}
 use Rattle.cells.proofs.Tests.{first-picked, second-picked}
 use Rattle.rows.specs.declared.{Row.Row}
 use Rattle.mask.specs.declared.Writing.the-variants.{HomeOrR0}
 use Rattle.mask.specs.Mask.{barsWrite}
-use Rattle.house_check.specs.Area as Area
+use Rattle.house_check.specs.Check as House
 use Rattle.areas.specs.declared.{Counts.Counts}
-use Rattle.areas.specs.Areas.{homeBytes, homeArea, homeFlag, r0First, countsAt, keyArea, dataArea, recordCells, endBy, needed, readable, rowOf}
-use Rattle.areas.specs.Flags.{flagOfR0, flagAfter}
+use Rattle.areas.specs.Areas.{homeBytes, homeArea, homeFlag, r0First, countsAt, keyArea, dataArea, recordCells, endBy, needed, readable, rowOf, flagOfR0, flagAfter}
 use Rattle.hunt.specs.declared.{Spot.Spot}
 use Rattle.hunt.specs.Hunt.{countFirst}
 use Rattle.room.specs.Room.{fits}
@@ -28,19 +25,15 @@ use Rattle.pack.specs.declared.{Head.Head, Shape.Shape}
 use Rattle.held.specs.declared.{Selection.Selection, Position.Position, Orders.Orders}
 use Rattle.held.specs.declared.Selection.the-variants.{Nothing, On}
 use Rattle.turn.specs.declared.Ending.the-variants.{Normal, Exception, Check}
-use Rattle.turn.specs.Turn.{positionAt, after, ordersOf}
+use Rattle.turn.specs.Turn.{positionAt, after, ordersOf, Tracks, TrackArea, Piece, Moves, Takes, Turn, lay, checkTurn}
 use Rattle.command.specs.declared.{Got.Got, Task.Task, Plan.Plan}
 use Rattle.command.specs.declared.Got.the-variants.{Sees, Fails}
-use Rattle.command.specs.Command.{seenWith, noCounts, named}
-use Rattle.command.specs.Command.{homePlace, SelectedOn}
-use Rattle.command.specs.Command.{homeDone}
+use Rattle.command.specs.Command.{seenWith, noCounts, named, homePlace, SelectedOn, homeDone, licensed, task, tallies, onRecord, aimed, unlessBarred, planOf, onHead, areasOf, allRead, countsIn, gets, seenOf, goesOver, writesOver, allRecorded, Sight, areasRead, sight, failTurn, endTurnAt, endTurn, endingOf, piece, toEnd, homeTurn, recordTakes, newTurn, r0Turn, recordTurn, overPiece, keySent, updateTurn, writeTurn, actTurn, jobOf, hasRead, readyBy, planReads, readyTurn, ruleTurn, command, positionAfter, ordersAfter}
 use Rattle.format.specs.Format.{newCounts, newRecord, formatted}
 use Rattle.format.proofs.Laws.{length-area, length-new}
 use Rattle.table.specs.declared.{Licence.Licence, Write.Write, Act.Act, Rule.Rule}
 use Rattle.table.specs.Table.{ruleOf, find, controls, searches, reads, writes}
-use Rattle.turn.specs.Turn.{Tracks, TrackArea, Piece, Moves, Takes, Turn, lay, checkTurn}
 use Rattle.command.specs.declared.Plan.the-variants.{Refuses, Works}
-use Rattle.command.specs.Command.{licensed, task, tallies, onRecord, aimed, unlessBarred, planOf, onHead, areasOf, allRead, countsIn, gets, seenOf, goesOver, writesOver, allRecorded, Sight, areasRead, sight, failTurn, endTurnAt, endTurn, endingOf, piece, toEnd, homeTurn, recordTakes, newTurn, r0Turn, recordTurn, overPiece, keySent, updateTurn, writeTurn, actTurn, jobOf, hasRead, readyBy, planReads, readyTurn, ruleTurn, command, positionAfter, ordersAfter}
 use Rattle.command.proofs.Pieces.{format-is}
 use Rattle.sound.specs.Sound.{Sound}
 use Rattle.claim_damage.specs.Damage.{IsRecord}
@@ -85,7 +78,7 @@ module _ (tr : Tracks) (s : Position) (o : Orders) (v : List ℕ) (long : length
     home-good : Good Write.HomeAddress (homeTurn x)
     unfolding homeTurn endTurn piece sight lay Took Lasts ReadsBack
     home-good =
-        let w : List ℕ = Area.cellsWithCheck (padded homeBytes v) in
+        let w : List ℕ = House.cellsWithCheck (padded homeBytes v) in
         did Write.HomeAddress Spot.R0 tt k false _ _ (formatted t 0 w) (format-is t 0 w long (omega (arith, length-area homeBytes v)))
         (home-lasts t v long b) (home-back t v long b)
 

@@ -10,14 +10,12 @@ use native.Mathlib.Decide.{ℕ-discrete}
 use native.Mathlib.Nat.{add-zero}
 use lib.ListN.{length, getD}
 use borrow.Author.Tests.{eqb-true}
-use Rattle.cells.specs.Bytes.{padded}
-use Rattle.cells.specs.Cells.{marker}
+use Rattle.cells.specs.Cells.{padded, marker}
 use Rattle.cells.proofs.Laws.{length-padded}
 use Rattle.cells.proofs.Numbers.{Bytes}
-use Rattle.house_check.specs.Area.{cellsWithCheck}
+use Rattle.house_check.specs.Check.{cellsWithCheck}
 use Rattle.areas.specs.declared.{Area.Area, Counts.Counts}
-use Rattle.areas.specs.Areas.{homeArea, homeFlag, countArea, countsOf, countsAt, keyArea, dataArea, recordCells, endBy, needed, areaCells, readable}
-use Rattle.areas.specs.Flags.{flagOfR0, flagAfter}
+use Rattle.areas.specs.Areas.{homeArea, homeFlag, countArea, countsOf, countsAt, keyArea, dataArea, recordCells, endBy, needed, areaCells, readable, flagOfR0, flagAfter}
 use Rattle.areas.proofs.Laws.{some-key}
 use Rattle.hunt.specs.declared.{Spot.Spot}
 use Rattle.hunt.specs.declared.Spot.the-variants.{R0, Marker}

@@ -7,11 +7,11 @@ use native.Mathlib.Omega.{arith}
 use lib.ListN.{length}
 use lib.Dec.{eqb}
 use borrow.Author.Tests.{ne-eqb}
-use Rattle.cells.specs.Bytes.{part, padded}
+use Rattle.cells.specs.Cells.{part, padded}
 use Rattle.cells.proofs.Laws.{length-padded}
 use Rattle.cells.proofs.Numbers.{Bytes, part-bytes}
 use Rattle.cells.proofs.Tests.{second-picked}
-use Rattle.house_check.specs.Area.{cellsWithCheck}
+use Rattle.house_check.specs.Check.{cellsWithCheck}
 use Rattle.house_check.proofs.Cells.{length-laid}
 use Rattle.areas.specs.declared.{Counts.Counts}
 use Rattle.areas.specs.Areas.{countArea, countsOf, countsAt, keyArea, dataArea, dataBytes, areaBytes}

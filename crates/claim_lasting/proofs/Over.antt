@@ -9,15 +9,14 @@ use native.Mathlib.Omega.{arith}
 use native.Mathlib.Decide.{decLt}
 use lib.ListN.{length, getD}
 use borrow.Author.Tests.{eqb-true}
-use Rattle.cells.specs.Bytes.{overlay}
+use Rattle.cells.specs.Cells.{overlay}
 use Rattle.cells.proofs.Laws.{length-overlay, overlay-before, overlay-behind}
 use Rattle.cells.proofs.Marks.{getD-marks, mark-here}
 use Rattle.cells.proofs.Numbers.{Bytes}
-use Rattle.house_check.specs.Area.{cellsWithCheck}
+use Rattle.house_check.specs.Check.{cellsWithCheck}
 use Rattle.house_check.proofs.Cells.{length-laid}
 use Rattle.areas.specs.declared.{Area.Area, Counts.Counts}
-use Rattle.areas.specs.Areas.{homeArea, countArea, countsAt, keyArea, dataArea, recordCells, endBy, areaCells, readable}
-use Rattle.areas.specs.Flags.{flagOfR0}
+use Rattle.areas.specs.Areas.{homeArea, countArea, countsAt, keyArea, dataArea, recordCells, endBy, areaCells, readable, flagOfR0}
 use Rattle.hunt.specs.declared.{Spot.Spot}
 use Rattle.hunt.specs.declared.Spot.the-variants.{R0, Marker}
 use Rattle.hunt.specs.Hunt.{countFirst, spotFits}

@@ -8,11 +8,10 @@ use native.Mathlib.Omega.{arith}
 use native.Mathlib.Nat.{add-assoc}
 use lib.ListN.{length, getD, take, length-append, List·getD-append}
 use lib.Seq.{ext-getD, getD-append-add}
-use Rattle.cells.specs.Bytes.{part, overlay}
-use Rattle.cells.specs.Cells.{bytesOf}
+use Rattle.cells.specs.Cells.{part, overlay, bytesOf}
 use Rattle.cells.proofs.Laws.{getD-part, length-part, part-overlay, overlay-same, length-overlay}
 use Rattle.cells.proofs.Numbers.{Bytes}
-use Rattle.house_check.specs.Area.{goodCells, cellsWithCheck}
+use Rattle.house_check.specs.Check.{goodCells, cellsWithCheck}
 use Rattle.house_check.proofs.Cells.{length-laid}
 use Rattle.areas.specs.declared.{Area.Area, Counts.Counts}
 use Rattle.areas.specs.Areas.{area, areaCells, readable, areaBytes, countArea, countsOf, countsAt, keyArea, dataArea}

@@ -8,20 +8,18 @@ use native.Mathlib.Omega.{arith}
 use lib.ListN.{length, getD}
 use lib.Dec.{ltb}
 use borrow.Author.Tests.{ltb-true, ltb-false}
-use Rattle.cells.specs.Choice.{pick}
-use Rattle.cells.specs.Bytes.{part, padded, overlay}
+use Rattle.cells.specs.Cells.{pick, part, padded, overlay}
 use Rattle.cells.proofs.Laws.{length-padded}
 use Rattle.cells.proofs.Numbers.{Bytes}
-use Rattle.house_check.specs.Area as Area
-use Rattle.areas.specs.declared.{Area.Area, Counts.Counts}
+use Rattle.house_check.specs.Check as House
+use Rattle.areas.specs.declared.{House.Area, Counts.Counts}
 use Rattle.areas.specs.Areas.{countsAt, keyArea, dataArea, areaCells}
 use Rattle.areas.proofs.Laws.{some-key}
 use Rattle.hunt.specs.declared.{Spot.Spot}
 use Rattle.hunt.specs.Hunt.{countFirst}
-use Rattle.command.specs.Command.{named}
+use Rattle.command.specs.Command.{named, Sight, piece, overPiece, keySent, allRecorded}
 use Rattle.command.proofs.Seen.{lies}
 use Rattle.turn.specs.Turn.{Piece, lay}
-use Rattle.command.specs.Command.{Sight, piece, overPiece, keySent, allRecorded}
 use Rattle.command.proofs.Pieces.{Over, over-in}
 use Rattle.sound.specs.Sound.{Sound}
 use Rattle.claim_damage.specs.Damage.{IsRecord, Own, ownKey, ownData, partNo}
@@ -42,7 +40,7 @@ key-there false n h = absurd (omega arith)
 
 -- an area, of n of the bytes sent from one on, if there are any
 abbrev pub anew : List ℕ → List ℕ → Area → ℕ → ℕ → List ℕ
-anew v t a from n = pick (ltb 0 n) (overlay t (a .first) (Area.cellsWithCheck (padded n (part v from n)))) t
+anew v t a from n = pick (ltb 0 n) (overlay t (a .first) (House.cellsWithCheck (padded n (part v from n)))) t
 
 abbrev pub updated : Bool → List ℕ → ℕ → Counts → List ℕ → List ℕ
 updated key v c n t = anew v (anew v t (keyArea c n) 0 (keySent key n)) (dataArea c n) (keySent key n) (n .dl)
@@ -58,7 +56,7 @@ module _ (x : Sight) where
   over-is a from n t = go (ltb 0 n)
     where
       w : List ℕ
-      w = Area.cellsWithCheck (padded n (part (x .sent) from n))
+      w = House.cellsWithCheck (padded n (part (x .sent) from n))
 
       go : (b : Bool) → lay (pick b (record { head = x .job .task .head; first = a .first; cells = w } ∷ []) []) t
           ≡ pick b (overlay t (a .first) w) t
@@ -88,7 +86,7 @@ module _ (v t : List ℕ) (b : Bytes v) (S : Sound t) (spot : Spot) (B : IsRecor
       w : List ℕ
       w = padded n (part v from n)
 
-      go : (y : Bool) → ltb 0 n ≡ y → Still t (pick y (overlay t (a .first) (Area.cellsWithCheck w)) t) spot
+      go : (y : Bool) → ltb 0 n ≡ y → Still t (pick y (overlay t (a .first) (House.cellsWithCheck w)) t) spot
       go true e =
           let W : Whose a n = f (ltb-true 0 n e) in
           over-still t a w (sent-bytes v n from n b) (length-padded n (part v from n) ∙ W .bytes) (lies t a (own-readable t S a (W .own)))
@@ -152,7 +150,7 @@ anew-back v t b a from n f = go (ltb 0 n) refl
     wb : Bytes w
     wb = sent-bytes v n from n b
 
-    go : (y : Bool) → ltb 0 n ≡ y → Anew t (pick y (overlay t (a .first) (Area.cellsWithCheck w)) t) a (0 < n) w
+    go : (y : Bool) → ltb 0 n ≡ y → Anew t (pick y (overlay t (a .first) (House.cellsWithCheck w)) t) a (0 < n) w
     go true e =
         let q = f (ltb-true 0 n e) in
         let wl : length w ≡ a .bytes = length-padded n (part v from n) ∙ q .0 in

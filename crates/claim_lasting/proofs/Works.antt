@@ -6,7 +6,7 @@ use mathlib.Core.Bool.{Bool, true, false, not, false≢true}
 use mathlib.Core.List.{List, [], _∷_}
 use native.Mathlib.Omega.{arith}
 use lib.ListN.{getD}
-use Rattle.cells.specs.Choice.{pick, both}
+use Rattle.cells.specs.Cells.{pick, both}
 use Rattle.cells.proofs.Tests.{pick-all, first-of, second-of}
 use Rattle.rows.specs.declared.{Row.Row}
 use Rattle.mask.specs.Mask.{barsSeek, barsWrite}
@@ -19,13 +19,12 @@ use Rattle.held.specs.declared.{Selection.Selection, Position.Position, Orders.
 use Rattle.held.specs.declared.Selection.the-variants.{Nothing, On}
 use Rattle.command.specs.declared.{Got.Got, Task.Task, Plan.Plan}
 use Rattle.command.specs.declared.Got.the-variants.{Sees, Fails}
-use Rattle.command.specs.Command.{seenWith}
+use Rattle.command.specs.Command.{seenWith, Marks, marksOf, licensed, tallies, onRecord, onSelected, aimed, unlessBarred, planOf, onHead, areasOf, allRead, countsIn, gets, seenOf, sight, writeTurn, actTurn, jobOf, hasRead, readyBy, readyTurn, ruleTurn, command}
 use Rattle.table.specs.declared.{Bar.Bar, Aim.Aim, Names.Names, Write.Write, Act.Act, Rule.Rule}
 use Rattle.table.specs.Table.{ruleOf, controls, searches, reads, writes}
 use Rattle.table.proofs.Laws.{every, each, of-every}
 use Rattle.turn.specs.Turn.{Tracks, TrackArea, Turn, checkTurn}
 use Rattle.command.specs.declared.Plan.the-variants.{Refuses, Works}
-use Rattle.command.specs.Command.{Marks, marksOf, licensed, tallies, onRecord, onSelected, aimed, unlessBarred, planOf, onHead, areasOf, allRead, countsIn, gets, seenOf, sight, writeTurn, actTurn, jobOf, hasRead, readyBy, readyTurn, ruleTurn, command}
 
 -- ---- what the table's rows of the writes have in common
 

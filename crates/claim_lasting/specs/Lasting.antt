@@ -7,12 +7,10 @@ use mathlib.Core.Path.{_≡_}
 use mathlib.Core.Bool.{Bool, true}
 use mathlib.Core.List.{List, [], _∷_}
 use lib.ListN.{length, getD}
-use Rattle.cells.specs.Bytes.{part, padded}
-use Rattle.cells.specs.Cells.{trackCells, gap}
+use Rattle.cells.specs.Cells.{part, padded, trackCells, gap}
 use Rattle.rows.specs.declared.{Row.Row}
 use Rattle.areas.specs.declared.{Area.Area}
-use Rattle.areas.specs.Areas.{homeBytes, homeArea, homeFlag, r0First, countArea, countsAt, keyArea, dataArea, dataBytes, readable, areaBytes}
-use Rattle.areas.specs.Flags.{flagOfR0, flagAfter}
+use Rattle.areas.specs.Areas.{homeBytes, homeArea, homeFlag, r0First, countArea, countsAt, keyArea, dataArea, dataBytes, readable, areaBytes, flagOfR0, flagAfter}
 use Rattle.hunt.specs.declared.{Spot.Spot}
 use Rattle.hunt.specs.Hunt.{countFirst}
 use Rattle.recording.specs.Recording.{countSent}

@@ -6,7 +6,7 @@ use mathlib.Core.Path.{_≡_, refl, ap}
 use mathlib.Core.List.{List, [], _∷_}
 use lib.ListN.{getD}
 use lib.Dec.{lit≤}
-use Rattle.cells.specs.Choice.{pick}
+use Rattle.cells.specs.Cells.{pick}
 use Rattle.words.specs.declared.{Word.Word}
 use Rattle.pack.specs.declared.{Shape.Shape}
 use Rattle.held.specs.Held.{fresh}

@@ -1,7 +1,7 @@
 -- Each row's columns come to it by computing.
 use mathlib.Core.Path.{_≡_, refl}
 use mathlib.Core.Bool.{Bool, true, false}
-use Rattle.cells.specs.Choice.{either}
+use Rattle.cells.specs.Cells.{either}
 use Rattle.claim_box.proofs.Opened.{command}
 use Rattle.claim_pinned.specs.Writes.{oneOf, follows, WritesNeed}
 

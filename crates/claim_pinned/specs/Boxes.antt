@@ -4,19 +4,18 @@ use mathlib.Core.Path.{_≡_}
 use mathlib.Core.Bool.{Bool, true}
 use mathlib.Core.List.{List, [], _∷_}
 use lib.Dec.{ltb, leb}
-use Rattle.cells.specs.Choice.{pick, both}
+use Rattle.cells.specs.Cells.{pick, both}
 use Rattle.rows.specs.declared.{Row.Row}
 use Rattle.words.specs.declared.{Word.Word, Status.Status, Tested.Tested}
-use Rattle.words.specs.Status.{stored, statusFor}
+use Rattle.words.specs.Words.{stored, statusFor}
 use Rattle.pack.specs.declared.{Shape.Shape}
 use Rattle.held.specs.declared.{Channel.Channel}
 use Rattle.held.specs.Held.{rested}
-use Rattle.channel.specs.Channel.{unitStatus}
+use Rattle.channel.specs.Channel.{unitStatus, placed, wrongLength, goesOn}
 use Rattle.table.specs.declared.{Act.Act}
 use Rattle.table.specs.Table.{ruleOf}
 use Rattle.turn.specs.declared.{Report.Report}
 use Rattle.turn.specs.Turn.{given, Turn, reportOf, checkTurn}
-use Rattle.channel.specs.Channel.{placed, wrongLength, goesOn}
 use Rattle.chain.specs.Step.{World, world, next, turnOf, settled, obeyed, stepBy, step, run}
 use Rattle.host.specs.declared.{Answer.Answer}
 use Rattle.host.specs.Host.{Hears, hears, guardOf, guards, starts, ran, goes}

@@ -6,8 +6,7 @@ use mathlib.Core.Path.{_≡_}
 use mathlib.Core.List.{List}
 use lib.ListN.{length}
 use lib.Dec.{eqb}
-use Rattle.cells.specs.Choice.{pick}
-use Rattle.cells.specs.Cells.{bytesOf}
+use Rattle.cells.specs.Cells.{pick, bytesOf}
 use Rattle.house_check.specs.Check.{check}
 use Rattle.held.specs.Held.{fresh}
 use Rattle.held.specs.Bytes.{heldBytes, encoded, bit}

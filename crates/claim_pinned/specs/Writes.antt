@@ -6,7 +6,7 @@ use mathlib.Core.Bool.{Bool, true, false}
 use mathlib.Core.List.{List, [], _∷_}
 use lib.ListN.{getD}
 use lib.Dec.{eqb}
-use Rattle.cells.specs.Choice.{pick, both, either}
+use Rattle.cells.specs.Cells.{pick, both, either}
 use Rattle.rows.specs.declared.{Row.Row}
 use Rattle.mask.specs.Mask.{writeBits}
 use Rattle.held.specs.declared.{Orders.Orders}

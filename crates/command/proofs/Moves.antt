@@ -4,7 +4,7 @@ use mathlib.Core.Path.{_≡_, refl}
 use mathlib.Core.Bool.{Bool, true, false, false≢true}
 use mathlib.Core.List.{List, []}
 use lib.Dec.{eqb}
-use Rattle.cells.specs.Choice.{pick, both}
+use Rattle.cells.specs.Cells.{pick, both}
 use Rattle.cells.proofs.Tests.{pick-all}
 use Rattle.rows.specs.declared.{Row.Row}
 use Rattle.mask.specs.Mask.{legal}

@@ -9,20 +9,17 @@ use lib.ListN.{length, take, drop, replicate, length-append, length-replicate}
 use lib.Seq.{drop-length}
 use lib.Dec.{ltb}
 use borrow.Author.Tests.{ltb-true, lt-ltb}
-use Rattle.cells.specs.Choice.{pick, both}
-use Rattle.cells.specs.Bytes.{part, padded, overlay}
-use Rattle.cells.specs.Cells.{trackCells}
+use Rattle.cells.specs.Cells.{pick, both, part, padded, overlay, trackCells}
 use Rattle.cells.proofs.Laws.{length-overlay}
 use Rattle.cells.proofs.Tests.{first-of, second-of}
-use Rattle.house_check.specs.Area as Area
-use Rattle.areas.specs.declared.{Area.Area, Counts.Counts}
+use Rattle.house_check.specs.Check as House
+use Rattle.areas.specs.declared.{House.Area, Counts.Counts}
 use Rattle.areas.specs.Areas.{keyArea, dataArea}
 use Rattle.pack.specs.declared.{Head.Head}
-use Rattle.command.specs.Command.{areaIf, named}
+use Rattle.command.specs.Command.{areaIf, named, Sight, piece, toEnd, overPiece, keySent, allRecorded}
 use Rattle.format.specs.Format.{recorded, formatted}
 use Rattle.format.proofs.Laws.{length-area, formatted-is, recorded-lies}
 use Rattle.turn.specs.Turn.{Piece, lay}
-use Rattle.command.specs.Command.{Sight, piece, toEnd, overPiece, keySent, allRecorded}
 
 -- ---- pieces on the track under a head
 
@@ -101,7 +98,7 @@ module _ (x : Sight) (h : Head) (same : x .job .task .head ≡ h) where
   over-on a from n inside = go (ltb 0 n) refl
     where
       go : (b : Bool) → ltb 0 n ≡ b
-          → PiecesOn h (pick b (record { head = x .job .task .head; first = a .first; cells = Area.cellsWithCheck (padded n (part (x .sent) from n)) } ∷ []) [])
+          → PiecesOn h (pick b (record { head = x .job .task .head; first = a .first; cells = House.cellsWithCheck (padded n (part (x .sent) from n)) } ∷ []) [])
       go true e = (same, omega (arith, inside (ltb-true 0 n e), length-area n (part (x .sent) from n)), tt)
       go false e = tt
 

@@ -7,8 +7,7 @@ use mathlib.Core.List.{List}
 use native.Mathlib.Omega.{arith}
 use lib.Dec.{ltb}
 use borrow.Author.Tests.{ltb-false}
-use Rattle.cells.specs.Choice.{pick, both}
-use Rattle.cells.specs.Cells.{trackCells, marks}
+use Rattle.cells.specs.Cells.{pick, both, trackCells, marks}
 use Rattle.cells.proofs.Tests.{pick-all}
 use Rattle.rows.specs.declared.{Row.Row}
 use Rattle.mask.specs.Mask.{barsSeek, barsWrite}
@@ -17,13 +16,12 @@ use Rattle.hunt.specs.Hunt.{WholeTrack, spotFits, countFirst, nextRecord, nextI
 use Rattle.hunt.proofs.Inside.{NextOn, next-on, id-on, spot-in}
 use Rattle.held.specs.declared.{Selection.Selection, Position.Position, Orders.Orders}
 use Rattle.held.specs.declared.Selection.the-variants.{Nothing, On}
-use Rattle.command.specs.Command.{mostTally, SelectedOn}
+use Rattle.command.specs.Command.{mostTally, SelectedOn, Marks, marksOf, licensed, task, tallies, onRecord, onNext, onSelected, toNext, toServed, aimed, unlessBarred, planOf}
 use Rattle.table.specs.declared.{Bar.Bar, Aim.Aim, Rule.Rule}
 use Rattle.table.specs.Table.{ruleOf, servesData, servesKey}
 use Rattle.turn.specs.Turn.{Tracks}
 use Rattle.command.specs.declared.{Task.Task, Plan.Plan}
 use Rattle.command.specs.declared.Plan.the-variants.{Refuses, Works}
-use Rattle.command.specs.Command.{Marks, marksOf, licensed, task, tallies, onRecord, onNext, onSelected, toNext, toServed, aimed, unlessBarred, planOf}
 
 -- ---- a command that takes no record selects none
 

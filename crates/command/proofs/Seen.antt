@@ -11,9 +11,7 @@ use lib.Seq.{take-take}
 use Rattle.cells.proofs.Laws.{take-bytesOf}
 use lib.Dec.{ltb}
 use borrow.Author.Tests.{ltb-true, ltb-false, lt-ltb}
-use Rattle.cells.specs.Choice.{pick, both}
-use Rattle.cells.specs.Bytes.{part}
-use Rattle.cells.specs.Cells.{bytesOf}
+use Rattle.cells.specs.Cells.{pick, both, part, bytesOf}
 use Rattle.rows.specs.declared.{Row.Row}
 use Rattle.areas.specs.declared.{Area.Area, Counts.Counts, CountRead.CountRead}
 use Rattle.areas.specs.Areas.{areaCells, homeArea, countArea, keyArea, dataArea, readable, areaBytes, countsAt, readCount}
@@ -23,7 +21,6 @@ use Rattle.command.specs.declared.Got.the-variants.{Sees, Fails}
 use Rattle.pack.specs.declared.{Head.Head}
 use Rattle.table.specs.declared.{Names.Names}
 use Rattle.turn.specs.Turn.{Tracks, TrackArea}
-use Rattle.command.specs.declared.Got.the-variants.{Sees, Fails}
 use Rattle.command.specs.Command.{areaIf, named, namedBy, onHead, areasOf, allRead, countsIn, gets, Seen, seen, seenWith, seenOf}
 
 -- an area's bytes are those of its first cells

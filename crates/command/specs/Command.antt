@@ -6,17 +6,14 @@ use mathlib.Core.Bool.{Bool, true, false}
 use mathlib.Core.List.{List, [], _∷_, _++_, map}
 use lib.ListN.{length, getD, take, drop, replicate}
 use lib.Dec.{ltb, leb, eqb}
-use Rattle.cells.specs.Choice.{pick, both, either}
-use Rattle.cells.specs.Bytes.{be16, number, part, padded}
-use Rattle.cells.specs.Cells.{trackCells, marker, gap, marks}
+use Rattle.cells.specs.Cells.{pick, both, either, be16, number, part, padded, trackCells, marker, gap, marks}
 use Rattle.rows.specs.declared.{Row.Row, Sense.Sense}
 use Rattle.rows.specs.Rows.{sense}
 use Rattle.mask.specs.declared.{Seeking.Seeking}
 use Rattle.mask.specs.Mask.{legal, barsSeek, barsWrite}
-use Rattle.house_check.specs.Area.{cellsWithCheck}
+use Rattle.house_check.specs.Check.{cellsWithCheck}
 use Rattle.areas.specs.declared.{Area.Area, Part.Part, Counts.Counts, CountRead.CountRead}
-use Rattle.areas.specs.Areas.{readable, areaBytes, rowOf, homeArea, homeBytes, r0First, countArea, countsAt, readCount, keyArea, dataArea, recordCells, endBy, needed}
-use Rattle.areas.specs.Flags.{flagOfR0, flagAfter}
+use Rattle.areas.specs.Areas.{readable, areaBytes, rowOf, homeArea, homeBytes, r0First, countArea, countsAt, readCount, keyArea, dataArea, recordCells, endBy, needed, flagOfR0, flagAfter}
 use Rattle.hunt.specs.declared.{Spot.Spot, Next.Next}
 use Rattle.hunt.specs.Hunt.{spotFits, countFirst, nextRecord, nextId, spaceRecord}
 use Rattle.room.specs.Room.{fits}
@@ -24,7 +21,7 @@ use Rattle.recording.specs.Recording.{countSent}
 use Rattle.compare.specs.declared.{Compared.Compared}
 use Rattle.compare.specs.Compare.{compared}
 use Rattle.pack.specs.declared.{Cylinder.Cylinder, Head.Head, Shape.Shape, Sought.Sought}
-use Rattle.pack.specs.Shapes.{cylinder, head, seekTo, seekHead}
+use Rattle.pack.specs.Pack.{cylinder, head, seekTo, seekHead}
 use Rattle.held.specs.declared.{Selection.Selection, Position.Position, Orders.Orders}
 use Rattle.format.specs.Format.{recorded, newCounts, newRecord}
 use Rattle.table.specs.declared.{How.How, Licence.Licence, Bar.Bar, Aim.Aim, Names.Names, Control.Control, Write.Write, Act.Act, Rule.Rule}

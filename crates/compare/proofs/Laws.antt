@@ -8,8 +8,7 @@ use native.Mathlib.Omega.{arith}
 use lib.ListN.{length, getD, drop, length-drop, drop-of-length-le}
 use lib.Seq.{drop-cons, getD-drop}
 use borrow.Author.Tests.{eq-eqb, ne-eqb, lt-ltb, le-ltb}
-use Rattle.cells.specs.Bytes.{numberFrom, number, part}
-use Rattle.cells.specs.Cells.{byteOf, bytesOf}
+use Rattle.cells.specs.Cells.{numberFrom, number, part, byteOf, bytesOf}
 use Rattle.cells.proofs.Laws.{length-bytesOf, getD-bytesOf, length-part, getD-part}
 use Rattle.cells.proofs.Numbers.{part-bytes, Bytes, number-less}
 use Rattle.compare.specs.declared.{Compared.Compared}

@@ -3,9 +3,7 @@ use Prim.Native.Nat.{ℕ, _+_, _≤_}
 use mathlib.Core.List.{List}
 use lib.ListN.{length}
 use lib.Dec.{ltb, eqb}
-use Rattle.cells.specs.Choice.{pick}
-use Rattle.cells.specs.Bytes.{number, part}
-use Rattle.cells.specs.Cells.{bytesOf}
+use Rattle.cells.specs.Cells.{pick, number, part, bytesOf}
 use Rattle.compare.specs.declared.{Compared.Compared}
 
 -- how the track's number stands to storage's

@@ -7,9 +7,7 @@ use native.Mathlib.Nat.{zero-add}
 use native.Mathlib.Omega.{arith}
 use lib.ListN.{length, getD, take, drop, set, replicate, length-drop}
 use lib.Seq.{take-length, getD-drop}
-use Rattle.cells.specs.Choice.{pick}
-use Rattle.cells.specs.Bytes.{overlay}
-use Rattle.cells.specs.Cells.{marks}
+use Rattle.cells.specs.Cells.{pick, overlay, marks}
 use Rattle.cells.proofs.Laws.{take-min, put-more}
 use Rattle.rows.specs.declared.{Row.Row}
 use Rattle.mask.specs.Mask.{legal}

@@ -19,7 +19,7 @@ ghost use mathlib.Core.Path.{_≡_};
 ghost use mathlib.Core.List.{List};
 ghost use Prim.Native.Nat.{ℕ, _+_, _-_, _≤_, min};
 ghost use lib.ListN.{length, getD};
-ghost use Rattle.cells.specs.Bytes.{be16};
+ghost use Rattle.cells.specs.Cells.{be16};
 ghost use Rattle.hunt.specs.Hunt.{WholeTrack};
 ghost use Rattle.turn.specs.Turn.{Tracks, alone, reportOf, filled};
 ghost use Rattle.command.specs.Command.{sight, failTurn, senseBytes, soughtBy, addressed, arrivalTurn, seekTurn, maskedTurn, maskTurn, spaceTurn, controlTurn};

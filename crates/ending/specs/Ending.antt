@@ -1,11 +1,10 @@
 -- What the channel is told at a command's end, of a turn without the bytes and cells of it: `command:Command.endTurnAt` and `turn:Turn.checkTurn`.
 use mathlib.Core.Bool.{Bool}
 use Rattle.rows.specs.declared.{Row.Row}
-use Rattle.rows.specs.Rows.{senseOf}
+use Rattle.rows.specs.Rows.{senseOf, rowTakes}
 use Rattle.held.specs.declared.{Position.Position, Orders.Orders}
 use Rattle.turn.specs.declared.{Ending.Ending, Transfer.Transfer, Report.Report}
 use Rattle.turn.specs.Turn.{withSense}
-use Rattle.rows.specs.Rows.{rowTakes}
 use Rattle.command.specs.declared.{Task.Task, Job.Job}
 use Rattle.command.specs.Command.{positionAfter, ordersAfter}
 

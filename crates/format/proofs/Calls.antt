@@ -10,11 +10,9 @@ use lib.ListN.{length, getD, take, drop, length-append, length-drop, drop-of-len
 use lib.Seq.{take-all}
 use lib.Dec.{lit<}
 use borrow.Author.Tests.{eq-eqb, ne-eqb}
-use Rattle.cells.specs.Choice.{pick, both}
-use Rattle.cells.specs.Bytes.{part, overlay, padded}
-use Rattle.cells.specs.Cells.{marker, allBytes}
+use Rattle.cells.specs.Cells.{pick, both, part, overlay, padded, marker, allBytes}
 use Rattle.cells.proofs.Laws.{take-min, length-padded, overlay-none, overlay-append}
-use Rattle.house_check.specs.Area.{cellsWithCheck}
+use Rattle.house_check.specs.Check.{cellsWithCheck}
 use Rattle.house_check.proofs.Cells.{length-laid}
 use Rattle.areas.specs.declared.{Area.Area, Counts.Counts}
 use Rattle.areas.specs.Areas.{areaCells, countsOf, keyCells, dataBytes, keyArea, dataArea, recordCells}

@@ -9,12 +9,10 @@ use lib.ListN.{length, getD, take, drop, replicate, length-append, length-replic
 use lib.Seq.{length-take-le, take-at, getD-append-add, getD-take}
 use lib.Dec.{eqb}
 use borrow.Author.Tests.{eqb-true}
-use Rattle.cells.specs.Choice.{pick}
-use Rattle.cells.specs.Bytes.{part, overlay, padded}
-use Rattle.cells.specs.Cells.{allBytes}
+use Rattle.cells.specs.Cells.{pick, part, overlay, padded, allBytes}
 use Rattle.cells.proofs.Laws.{length-overlay, length-padded}
 use Rattle.cells.proofs.Tests.{first-of}
-use Rattle.house_check.specs.Area.{cellsWithCheck}
+use Rattle.house_check.specs.Check.{cellsWithCheck}
 use Rattle.house_check.proofs.Cells.{length-laid}
 use Rattle.areas.specs.declared.{Area.Area, Counts.Counts}
 use Rattle.areas.specs.Areas.{areaCells, dataBytes, keyCells, recordCells}

@@ -6,10 +6,8 @@ use mathlib.Core.Bool.{Bool}
 use mathlib.Core.List.{List, [], _∷_, _++_}
 use lib.ListN.{length}
 use lib.Dec.{eqb}
-use Rattle.cells.specs.Choice.{pick, both}
-use Rattle.cells.specs.Bytes.{part, overlay, padded}
-use Rattle.cells.specs.Cells.{allBytes}
-use Rattle.house_check.specs.Area.{checkBytes, cellsWithCheck}
+use Rattle.cells.specs.Cells.{pick, both, part, overlay, padded, allBytes}
+use Rattle.house_check.specs.Check.{checkBytes, cellsWithCheck}
 use Rattle.areas.specs.declared.{Area.Area, Counts.Counts}
 use Rattle.areas.specs.Areas.{areaCells, countsOf, dataBytes, recordCells}
 use Rattle.recording.specs.Recording.{countSent, wiped}

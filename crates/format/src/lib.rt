@@ -5,8 +5,7 @@ ghost use mathlib.Core.Path.{_≡_};
 ghost use mathlib.Core.List.{[], _∷_};
 ghost use Prim.Native.Nat.{_+_, _<_, _≤_};
 ghost use lib.ListN.{length};
-ghost use Rattle.cells.specs.Bytes.{overlay, part};
-ghost use Rattle.cells.specs.Cells.{trackCells, marker};
+ghost use Rattle.cells.specs.Cells.{overlay, part, trackCells, marker};
 ghost use Rattle.recording.specs.Recording.{areaWritten, Lies};
 ghost use Rattle.format.specs.Format.{newCounts, newKey, newRecord, recorded, Ends};
 

@@ -10,8 +10,7 @@ use lib.ListN.{length, getD, drop, replicate, length-drop}
 use lib.Seq.{drop-cons}
 use lib.Dec.{ltb, eqb, lit<}
 use borrow.Author.Tests.{eqb-true, ltb-true}
-use Rattle.cells.specs.Choice.{pick, both}
-use Rattle.cells.specs.Bytes.{be16}
+use Rattle.cells.specs.Cells.{pick, both, be16}
 use Rattle.cells.proofs.Numbers.{Bytes}
 use Rattle.hunt.specs.declared.Spot.the-variants.{R0, Marker}
 use Rattle.held.specs.declared.{Selection.Selection, Held.Held}

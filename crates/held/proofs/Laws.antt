@@ -9,8 +9,7 @@ use lib.ListN.{length, getD, take, drop, set, drop-of-length-le}
 use lib.Seq.{drop-cons}
 use lib.Dec.{eqb}
 use borrow.Author.Tests.{eq-eqb, ne-eqb}
-use Rattle.cells.specs.Choice.{both}
-use Rattle.cells.specs.Bytes.{part, overlay, padded}
+use Rattle.cells.specs.Cells.{both, part, overlay, padded}
 use Rattle.cells.proofs.Laws.{overlay-snoc, overlay-append, length-padded, padded-snoc}
 use Rattle.held.specs.declared.{Held.Held}
 use Rattle.held.specs.Bytes.{heldBytes, layout, encoded, allZero, flagsFit, selectionEncoded, encodes}

@@ -4,10 +4,9 @@ use mathlib.Core.Bool.{Bool, true, false}
 use mathlib.Core.List.{List, [], _∷_, _++_}
 use lib.ListN.{length, getD, drop, replicate}
 use lib.Dec.{ltb, eqb}
-use Rattle.cells.specs.Choice.{pick, both}
-use Rattle.cells.specs.Bytes.{be16, be24}
+use Rattle.cells.specs.Cells.{pick, both, be16, be24}
 use Rattle.rows.specs.Rows.{sense}
-use Rattle.pack.specs.Shapes.{cylinder, head}
+use Rattle.pack.specs.Pack.{cylinder, head}
 use Rattle.hunt.specs.declared.{Spot.Spot}
 use Rattle.held.specs.declared.{Selection.Selection, Held.Held, Kept.Kept}
 

@@ -1,7 +1,7 @@
 -- Document 01, "Where the head stands" and "Commands": what the box holds from call to call. Assumes nothing.
 use mathlib.Core.Bool.{false}
 use Rattle.rows.specs.Rows.{sense}
-use Rattle.pack.specs.Shapes.{cylinder, head}
+use Rattle.pack.specs.Pack.{cylinder, head}
 use Rattle.held.specs.declared.{Selection.Selection, Position.Position, Orders.Orders, Channel.Channel, Held.Held}
 
 -- a fresh box stands at cylinder 0, head 0, place 0, with mask 0, sense all zero and no chain going

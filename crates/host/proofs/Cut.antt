@@ -4,9 +4,9 @@ use Prim.Native.Nat.{ℕ, _+_}
 use mathlib.Core.Path.{_≡_, refl, sym, ap, _∙_}
 use mathlib.Core.Bool.{Bool, true, false}
 use native.Mathlib.Omega.{arith}
-use Rattle.cells.specs.Choice.{pick}
+use Rattle.cells.specs.Cells.{pick}
 use Rattle.pack.specs.declared.{Shape.Shape}
-use Rattle.pack.specs.Shapes.{packFits}
+use Rattle.pack.specs.Pack.{packFits}
 use Rattle.chain.specs.Step.{World, run}
 use Rattle.chain.specs.Legal.{storageFits}
 use Rattle.chain.proofs.Runs.{run-split, run-idle, run-legal, run-sizes}

@@ -7,11 +7,10 @@ use native.Mathlib.Omega.{arith}
 use lib.ListN.{length}
 use lib.Dec.{leb}
 use borrow.Author.Tests.{leb-true, eqb-true}
-use Rattle.cells.specs.Choice.{pick}
+use Rattle.cells.specs.Cells.{pick}
 use Rattle.cells.proofs.Tests.{first-of, second-of, both-of}
 use Rattle.pack.specs.declared.{Shape.Shape}
-use Rattle.pack.specs.Shapes.{mostCylinders, mostHeads, from1To, packFits}
-use Rattle.pack.specs.Tracks.{WholePack}
+use Rattle.pack.specs.Pack.{mostCylinders, mostHeads, from1To, packFits, WholePack}
 use Rattle.chain.specs.Step.{World}
 use Rattle.chain.specs.Legal.{storageFits, positionFits, channelFits, heldFits, Legal}
 use Rattle.host.specs.declared.{Answer.Answer}

@@ -8,9 +8,7 @@ use lib.ListN.{length, take, drop, set}
 use lib.Seq.{sets-eq}
 use lib.Dec.{leb}
 use borrow.Author.Tests.{lt-leb, le-leb}
-use Rattle.cells.specs.Choice.{pick, both}
-use Rattle.cells.specs.Bytes.{overlay}
-use Rattle.cells.specs.Cells.{markAt, marks}
+use Rattle.cells.specs.Cells.{pick, both, overlay, markAt, marks}
 use Rattle.cells.proofs.Marks.{getD-marks}
 use Rattle.mask.specs.Mask.{legal}
 use Rattle.words.specs.declared.{Word.Word, Begun.Begun, Cause.Cause, Tested.Tested}
@@ -20,8 +18,7 @@ use Rattle.words.specs.Words.{along, begunBy, tested}
 use Rattle.hunt.specs.declared.{Spot.Spot}
 use Rattle.hunt.specs.declared.Spot.the-variants.{R0, Marker}
 use Rattle.pack.specs.declared.{Shape.Shape}
-use Rattle.pack.specs.Shapes.{packFits}
-use Rattle.pack.specs.Tracks.{startOf, trackAt}
+use Rattle.pack.specs.Pack.{packFits, startOf, trackAt}
 use Rattle.pack.proofs.Laws.{lent-is}
 use Rattle.table.specs.declared.{Rule.Rule}
 use Rattle.table.specs.Table.{ruleOf}

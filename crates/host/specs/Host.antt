@@ -3,12 +3,11 @@ use Prim.Native.Nat.{ℕ}
 use mathlib.Core.Bool.{true, false}
 use mathlib.Core.List.{[], _∷_}
 use lib.ListN.{length}
-use Rattle.cells.specs.Choice.{pick}
-use Rattle.cells.specs.Bytes.{overlay}
+use Rattle.cells.specs.Cells.{pick, overlay}
 use Rattle.words.specs.declared.{Begun.Begun, Tested.Tested}
 use Rattle.words.specs.Words.{along, begunBy, tested}
 use Rattle.pack.specs.declared.{Shape.Shape}
-use Rattle.pack.specs.Shapes.{packFits}
+use Rattle.pack.specs.Pack.{packFits}
 use Rattle.held.specs.declared.{Held.Held}
 use Rattle.held.specs.Held.{fresh}
 use Rattle.chain.specs.Step.{World, world, run}

@@ -10,13 +10,11 @@ use native.Mathlib.Decide.{ℕ-discrete}
 use borrow.Author.Tests.{eq-eqb, ne-eqb}
 use lib.ListN.{length, take, drop, getD, drop-of-length-le, length-append, length-map}
 use lib.Seq.{drop-cons, take-append-seam, getD-append-seam, getD-append-add}
-use Rattle.cells.specs.Choice.{both}
-use Rattle.cells.specs.Cells.{cellOf, bytesOf, cellsOf, allBytes}
+use Rattle.cells.specs.Cells.{both, cellOf, bytesOf, cellsOf, allBytes}
 use Rattle.cells.proofs.Laws.{length-bytesOf, getD-bytesOf}
 use Rattle.cells.proofs.Marks.{both-never}
 use Rattle.cells.proofs.Numbers.{Bytes}
-use Rattle.house_check.specs.Check.{feed, byteBits, bits, check}
-use Rattle.house_check.specs.Area.{Area, agrees, goodCells, sixteen, withCheck, cellsWithCheck, Burst, window}
+use Rattle.house_check.specs.Check.{feed, byteBits, bits, check, Area, agrees, goodCells, sixteen, withCheck, cellsWithCheck, Burst, window}
 use Rattle.house_check.proofs.Window.{feed-lt}
 use Rattle.house_check.proofs.Bits.{bits-Bits}
 use Rattle.house_check.proofs.Remainder.{agrees-zero, zero-agrees}

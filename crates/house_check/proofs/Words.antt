@@ -5,8 +5,7 @@ use Prim.Native.Nat.{ℕ, suc, _+_, _-_, _*_, _/_, _%_, _^_, _<_, _≤_}
 use native.Mathlib.Omega.{arith}
 use lib.ListN.{length, take, drop, getD, length-drop, take-append-drop}
 use lib.Seq.{drop-drop, take-all}
-use Rattle.cells.specs.Bytes.{part}
-use Rattle.cells.specs.Cells.{bytesOf}
+use Rattle.cells.specs.Cells.{part, bytesOf}
 use Rattle.cells.proofs.Laws.{part-cons}
 use Rattle.house_check.specs.Check.{feed, byteBits, bits}
 use Rattle.house_check.specs.Fold.{cellsIn, lowBytes, bytesIn}

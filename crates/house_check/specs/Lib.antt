@@ -1,5 +1,4 @@
 -- The model of the HOUSE check.
 pub mod Check
-pub mod Area
 pub mod Table
 pub mod Fold

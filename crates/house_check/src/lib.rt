@@ -5,11 +5,8 @@ ghost use mathlib.Core.List.{[], _++_};
 ghost use Prim.Native.Nat.{_+_, _-_, _^_, _<_, _≤_};
 ghost use lib.Dec.{eqb};
 ghost use lib.ListN.{length};
-ghost use Rattle.cells.specs.Choice.{both};
-ghost use Rattle.cells.specs.Bytes.{part};
-ghost use Rattle.cells.specs.Cells.{bytesOf, allBytes};
-ghost use Rattle.house_check.specs.Area.{checkBytes, goodCells};
-ghost use Rattle.house_check.specs.Check.{bitStep, feed, byteBits, bits, check};
+ghost use Rattle.cells.specs.Cells.{both, part, bytesOf, allBytes};
+ghost use Rattle.house_check.specs.Check.{checkBytes, goodCells, bitStep, feed, byteBits, bits, check};
 ghost use Rattle.house_check.specs.Table.{remainders, tableFeed};
 ghost use Rattle.house_check.specs.Fold.{cellsIn, rest, lowBytes, bytesIn, spread};
 

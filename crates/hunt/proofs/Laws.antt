@@ -11,8 +11,7 @@ use lib.ListN.{length, getD, take, drop, drop-of-length-le, List·getD-eq-defaul
 use lib.Seq.{drop-cons}
 use lib.Dec.{eqb}
 use borrow.Author.Tests.{le-leb, lt-ltb, le-ltb, eqb-false, not-true}
-use Rattle.cells.specs.Choice.{pick, both}
-use Rattle.cells.specs.Cells.{markAt, marks}
+use Rattle.cells.specs.Cells.{pick, both, markAt, marks}
 use Rattle.cells.proofs.Marks.{length-marks, getD-marks, mark-here, mark-none, mark-low}
 use Rattle.cells.proofs.Tests.{first-of, second-of}
 use Rattle.hunt.specs.declared.{Found.Found, Next.Next}

@@ -6,8 +6,7 @@ use mathlib.Core.Bool.{Bool, true, false, not}
 use mathlib.Core.List.{List, [], _∷_}
 use lib.ListN.{length, getD, drop}
 use lib.Dec.{ltb, eqb}
-use Rattle.cells.specs.Choice.{pick, both}
-use Rattle.cells.specs.Cells.{trackCells, firstMarker, marker}
+use Rattle.cells.specs.Cells.{pick, both, trackCells, firstMarker, marker}
 use Rattle.hunt.specs.declared.{Found.Found, Spot.Spot, Next.Next}
 
 -- a whole track

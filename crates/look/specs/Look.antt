@@ -5,8 +5,7 @@ use mathlib.Core.Bool.{Bool}
 use mathlib.Core.List.{List, [], _∷_}
 use lib.ListN.{length}
 use lib.Dec.{eqb, leb}
-use Rattle.cells.specs.Choice.{pick, both, either}
-use Rattle.cells.specs.Cells.{trackCells, marks}
+use Rattle.cells.specs.Cells.{pick, both, either, trackCells, marks}
 use Rattle.areas.specs.declared.{Part.Part, Area.Area, CountRead.CountRead}
 use Rattle.areas.specs.Areas.{readable, homeArea, countArea, readCount, keyArea, dataArea}
 use Rattle.hunt.specs.declared.{Found.Found}

@@ -4,7 +4,7 @@ use mathlib.Core.Bool.{Bool, true, false}
 use mathlib.Core.List.{List, [], _∷_}
 use lib.ListN.{getD}
 use lib.Dec.{eqb}
-use Rattle.cells.specs.Choice.{both}
+use Rattle.cells.specs.Cells.{both}
 use Rattle.mask.specs.declared.{Writing.Writing, Seeking.Seeking}
 
 -- bits 0 and 1, and bits 3 and 4, each pair a number 0 to 3

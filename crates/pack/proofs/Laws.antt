@@ -12,14 +12,11 @@ use lib.Seq.{drop-drop}
 use lib.Dec.{eqb, leb}
 use borrow.Author.Tests.{leb-true}
 use borrow.Rule.Slice.PartMut.{putMid}
-use Rattle.cells.specs.Choice.{both}
-use Rattle.cells.specs.Bytes.{part, overlay}
-use Rattle.cells.specs.Cells.{trackCells}
+use Rattle.cells.specs.Cells.{both, part, overlay, trackCells}
 use Rattle.cells.proofs.Tests.{second-of}
 use Rattle.cells.proofs.Laws.{length-part, overlay-before, overlay-behind}
 use Rattle.pack.specs.declared.{Cylinder.Cylinder, Head.Head, Shape.Shape}
-use Rattle.pack.specs.Shapes.{mostCylinders, mostHeads, from1To, packFits}
-use Rattle.pack.specs.Tracks.{WholePack, On, trackNo, startOf, trackAt, withTrack}
+use Rattle.pack.specs.Pack.{mostCylinders, mostHeads, from1To, packFits, WholePack, On, trackNo, startOf, trackAt, withTrack}
 
 -- ---- where a track lies
 

@@ -4,13 +4,12 @@ use mathlib.Core.Path.{_≡_, refl}
 use mathlib.Core.Bool.{Bool, true, false}
 use lib.Dec.{eqb}
 use borrow.Author.Tests.{ltb-true}
-use Rattle.cells.specs.Choice.{pick, both}
+use Rattle.cells.specs.Cells.{pick, both}
 use Rattle.cells.proofs.Tests.{first-of, second-of}
 use Rattle.rows.specs.declared.Row.the-variants.{BadSeek}
 use Rattle.pack.specs.declared.{Cylinder.Cylinder, Head.Head, Shape.Shape, Sought.Sought}
 use Rattle.pack.specs.declared.Sought.the-variants.{To, Fails}
-use Rattle.pack.specs.Shapes.{cylinderOn, headOn, seekTo, seekHead}
-use Rattle.pack.specs.Tracks.{On}
+use Rattle.pack.specs.Pack.{cylinderOn, headOn, seekTo, seekHead, On}
 
 abbrev pub SoughtOn : Shape → Sought → Type 0
 SoughtOn g (To c h) = On g c h

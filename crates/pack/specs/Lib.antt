@@ -1,3 +1,2 @@
 -- The model of a pack.
-pub mod Shapes
-pub mod Tracks
+pub mod Pack

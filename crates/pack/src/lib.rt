@@ -3,8 +3,7 @@ use rows::Row;
 ghost use mathlib.Core.Path.{_≡_};
 ghost use Prim.Native.Nat.{_+_, _*_, _≤_};
 ghost use Rattle.cells.specs.Cells.{trackCells};
-ghost use Rattle.pack.specs.Shapes.{from1To, packFits, seekTo, seekHead, mostCylinders, mostHeads};
-ghost use Rattle.pack.specs.Tracks.{On, startOf};
+ghost use Rattle.pack.specs.Pack.{from1To, packFits, seekTo, seekHead, mostCylinders, mostHeads, On, startOf};
 
 pub struct Cylinder(pub u16);
 

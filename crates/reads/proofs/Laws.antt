@@ -7,9 +7,7 @@ use native.Mathlib.Omega.{arith}
 use native.Mathlib.Decide.{decLt, decLe}
 use lib.ListN.{length, getD, take, drop, set, length-take, length-drop, length-append}
 use lib.Seq.{take-all, take-nil, drop-nil, drop-drop}
-use Rattle.cells.specs.Choice.{pick}
-use Rattle.cells.specs.Bytes.{part, overlay}
-use Rattle.cells.specs.Cells.{byteOf, bytesOf}
+use Rattle.cells.specs.Cells.{pick, part, overlay, byteOf, bytesOf}
 use Rattle.cells.proofs.Laws.{length-bytesOf, getD-bytesOf, take-bytesOf, drop-bytesOf, getD-part, length-overlay, overlay-none, overlay-two, put-more, take-min}
 use Rattle.areas.specs.declared.{Area.Area, Counts.Counts}
 use Rattle.areas.specs.Areas.{keyArea, dataArea}

@@ -5,22 +5,19 @@ use mathlib.Core.Bool.{Bool, true, false}
 use mathlib.Core.List.{List, [], _∷_, _++_}
 use native.Mathlib.Omega.{arith}
 use lib.ListN.{length, getD, length-append}
-use Rattle.cells.specs.Choice.{pick}
-use Rattle.cells.specs.Bytes.{part}
-use Rattle.cells.specs.Cells.{byteOf, bytesOf}
+use Rattle.cells.specs.Cells.{pick, part, byteOf, bytesOf}
 use Rattle.cells.proofs.Laws.{part-cons}
 use Rattle.areas.specs.declared.{Counts.Counts}
 use Rattle.areas.specs.Areas.{countsAt}
 use Rattle.areas.proofs.Laws.{counts-are}
 use Rattle.pack.specs.declared.{Head.Head}
 use Rattle.command.specs.declared.Got.the-variants.{Sees}
-use Rattle.command.specs.Command.{Seen, idOf, countMoved, gets, seenOf}
+use Rattle.command.specs.Command.{Seen, idOf, countMoved, gets, seenOf, areasOf, areasRead, sight, Sighted, endTurnAt, endTurn, endingOf, offered, readTurn}
 use Rattle.command.proofs.Seen.{count-lies, record-counts, record-key, record-body, key-lies, body-lies, home-seen, home-lies}
 use Rattle.table.specs.declared.{Names.Names}
 use Rattle.turn.specs.declared.{Transfer.Transfer}
 use Rattle.turn.specs.Turn.{Tracks, given, transferOf, filled, reportOf}
 use Rattle.command.specs.declared.{Job.Job}
-use Rattle.command.specs.Command.{areasOf, areasRead, sight, Sighted, endTurnAt, endTurn, endingOf, offered, readTurn}
 use Rattle.ending.specs.Ending.{reportAt}
 use Rattle.reads.specs.declared.{Rest.Rest}
 use Rattle.reads.specs.Inside.{readReport, LieIf, LieAll, Puts, start, countGiven, keyGiven, bodyGiven, bytesGiven, manyGiven}

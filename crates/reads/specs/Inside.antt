@@ -4,9 +4,7 @@ use mathlib.Core.Path.{_≡_}
 use mathlib.Core.Bool.{Bool, false}
 use mathlib.Core.List.{List, [], _++_}
 use lib.ListN.{length, take, drop}
-use Rattle.cells.specs.Choice.{pick}
-use Rattle.cells.specs.Bytes.{part, overlay}
-use Rattle.cells.specs.Cells.{bytesOf}
+use Rattle.cells.specs.Cells.{pick, part, overlay, bytesOf}
 use Rattle.areas.specs.declared.{Counts.Counts}
 use Rattle.areas.specs.Areas.{homeBytes, keyArea, dataArea}
 use Rattle.recording.specs.Recording.{countSent}

@@ -6,12 +6,10 @@ use native.Mathlib.Numerals.{add-one, unary-clauses}
 use native.Mathlib.Omega.{arith}
 use lib.ListN.{length, getD, set, length-set, length-map}
 use lib.Seq.{sets-eq, take-suc-set, take-all, append-snoc}
-use Rattle.cells.specs.Bytes.{part, overlay, padded}
-use Rattle.cells.specs.Cells.{cellOf, bytesOf, cellsOf}
+use Rattle.cells.specs.Cells.{part, overlay, padded, cellOf, bytesOf, cellsOf}
 use Rattle.cells.proofs.Laws.{overlay-none, overlay-snoc, overlay-append, part-overlay, length-padded, padded-snoc}
 use Rattle.cells.proofs.Numbers.{Bytes}
-use Rattle.house_check.specs.Check.{check}
-use Rattle.house_check.specs.Area.{sixteen, withCheck, cellsWithCheck}
+use Rattle.house_check.specs.Check.{check, sixteen, withCheck, cellsWithCheck}
 use Rattle.house_check.proofs.Cells.{cells-bytes}
 use Rattle.recording.specs.Recording.{areaWritten, countWritten, wiped}
 

@@ -6,12 +6,10 @@ use mathlib.Core.List.{List}
 use native.Mathlib.Omega.{arith}
 use lib.ListN.{length, take}
 use lib.Seq.{take-append-seam}
-use Rattle.cells.specs.Bytes.{part, overlay}
-use Rattle.cells.specs.Cells.{bytesOf}
+use Rattle.cells.specs.Cells.{part, overlay, bytesOf}
 use Rattle.cells.proofs.Laws.{part-overlay}
 use Rattle.cells.proofs.Numbers.{Bytes}
-use Rattle.house_check.specs.Check.{check}
-use Rattle.house_check.specs.Area.{goodCells, withCheck, cellsWithCheck, sixteen}
+use Rattle.house_check.specs.Check.{check, goodCells, withCheck, cellsWithCheck, sixteen}
 use Rattle.house_check.proofs.Cells.{laid-good, length-laid, laid-bytes}
 use Rattle.areas.specs.declared.{Part.Part}
 use Rattle.areas.specs.Areas.{area, areaCells, readable, areaBytes}

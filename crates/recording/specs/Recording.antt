@@ -3,9 +3,8 @@
 use Prim.Native.Nat.{ℕ, _+_, _-_, _≤_}
 use mathlib.Core.List.{List, _∷_, _++_}
 use lib.ListN.{length, take, replicate}
-use Rattle.cells.specs.Bytes.{overlay, padded}
-use Rattle.cells.specs.Cells.{gap}
-use Rattle.house_check.specs.Area.{checkBytes, cellsWithCheck}
+use Rattle.cells.specs.Cells.{overlay, padded, gap}
+use Rattle.house_check.specs.Check.{checkBytes, cellsWithCheck}
 
 -- an area of n bytes recorded from a cell on, of bytes that came from storage
 unfoldable pub areaWritten : List ℕ → ℕ → List ℕ → ℕ → List ℕ

@@ -3,10 +3,8 @@ ghost use mathlib.Core.Path.{_≡_};
 ghost use mathlib.Core.List.{[], _∷_};
 ghost use Prim.Native.Nat.{_+_, _<_, _≤_};
 ghost use lib.ListN.{length};
-ghost use Rattle.cells.specs.Bytes.{overlay, part, padded};
-ghost use Rattle.cells.specs.Cells.{bytesOf, cellsOf, cellOf};
-ghost use Rattle.house_check.specs.Area.{sixteen};
-ghost use Rattle.house_check.specs.Check.{check};
+ghost use Rattle.cells.specs.Cells.{overlay, part, padded, bytesOf, cellsOf, cellOf};
+ghost use Rattle.house_check.specs.Check.{sixteen, check};
 ghost use Rattle.recording.specs.Recording.{areaWritten, countWritten, wiped, Lies};
 
 // The cell that records a zero; a byte b is recorded as b more.

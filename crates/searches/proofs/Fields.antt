@@ -7,8 +7,7 @@ use native.Mathlib.Omega.{arith}
 use native.Mathlib.Decide.{ℕ-discrete}
 use lib.ListN.{length, take, drop, length-take, length-drop}
 use lib.Seq.{drop-drop, take-all}
-use Rattle.cells.specs.Bytes.{number, part}
-use Rattle.cells.specs.Cells.{byteOf, bytesOf}
+use Rattle.cells.specs.Cells.{number, part, byteOf, bytesOf}
 use Rattle.cells.proofs.Laws.{length-bytesOf, take-bytesOf, length-part, take-min}
 use Rattle.areas.specs.declared.{Counts.Counts}
 use Rattle.areas.specs.Areas.{countArea, keyArea, countsOf, countsAt}
@@ -16,12 +15,11 @@ use Rattle.compare.specs.declared.{Compared.Compared}
 use Rattle.compare.specs.Compare.{compared, comparedBytes, There}
 use Rattle.pack.specs.declared.{Head.Head}
 use Rattle.command.specs.declared.Got.the-variants.{Sees}
-use Rattle.command.specs.Command.{Seen, idOf, gets, seenOf}
+use Rattle.command.specs.Command.{Seen, idOf, gets, seenOf, Sighted, areasOf, areasRead, fieldOf, comparison}
 use Rattle.command.proofs.Seen.{area-bytes, count-lies, record-counts, key-lies, record-key, home-seen, home-lies}
 use Rattle.table.specs.declared.{Names.Names}
 use Rattle.turn.specs.Turn.{alone}
 use Rattle.command.specs.declared.{Job.Job}
-use Rattle.command.specs.Command.{Sighted, areasOf, areasRead, fieldOf, comparison}
 use Rattle.searches.specs.Field.{fieldFirst, fieldLength}
 
 -- ---- a field that lies on the track: so many bytes from a cell on

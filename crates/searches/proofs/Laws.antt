@@ -4,7 +4,7 @@ use mathlib.Core.Path.{_≡_, sym, ap, ap₂, _∙_}
 use mathlib.Core.Bool.{Bool, true, false}
 use lib.Dec.{leb}
 use borrow.Author.Tests.{le-leb, lt-leb}
-use Rattle.cells.specs.Choice.{both}
+use Rattle.cells.specs.Cells.{both}
 use Rattle.cells.proofs.Tests.{zero-ltb, nonzero-ltb}
 use Rattle.compare.specs.declared.{Compared.Compared}
 use Rattle.table.specs.declared.{How.How}

@@ -6,17 +6,14 @@ use mathlib.Core.List.{List, []}
 use native.Mathlib.Omega.{arith}
 use lib.ListN.{length}
 use lib.Dec.{leb}
-use Rattle.cells.specs.Choice.{pick, both}
-use Rattle.cells.specs.Bytes.{part}
-use Rattle.cells.specs.Cells.{bytesOf}
+use Rattle.cells.specs.Cells.{pick, both, part, bytesOf}
 use Rattle.compare.specs.declared.{Compared.Compared}
 use Rattle.table.specs.declared.{How.How}
 use Rattle.turn.specs.declared.{Ending.Ending, Transfer.Transfer, Report.Report}
 use Rattle.turn.specs.declared.Ending.the-variants.{Normal, Satisfied}
-use Rattle.command.specs.Command.{found, equalOnly}
+use Rattle.command.specs.Command.{found, equalOnly, Sighted, sight, comparison, satisfied, wholly, fieldTurn, searchTurn}
 use Rattle.turn.specs.Turn.{alone, transferOf, reportOf}
 use Rattle.command.specs.declared.{Job.Job}
-use Rattle.command.specs.Command.{Sighted, sight, comparison, satisfied, wholly, fieldTurn, searchTurn}
 use Rattle.ending.specs.Ending.{reportAt}
 use Rattle.ending.proofs.Laws.{ended}
 use Rattle.searches.specs.Field.{fieldFirst, fieldLength}

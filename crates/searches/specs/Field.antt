@@ -1,6 +1,6 @@
 -- Where the field of a search lies on its track, so that the code can compare it there: so many bytes from a cell on.
 use Prim.Native.Nat.{ℕ, _+_, _-_}
-use Rattle.cells.specs.Choice.{pick}
+use Rattle.cells.specs.Cells.{pick}
 use Rattle.areas.specs.declared.{Counts.Counts}
 use Rattle.areas.specs.Areas.{homeBytes, countCells}
 use Rattle.command.specs.Command.{flagBytes, idBytes}

@@ -4,7 +4,7 @@ use mathlib.Core.Path.{_≡_, refl, sym, ap, _∙_}
 use mathlib.Core.Bool.{Bool, true, false}
 use mathlib.Core.List.{List, [], _∷_, _++_}
 use lib.Dec.{ltb}
-use Rattle.cells.specs.Choice.{pick, both}
+use Rattle.cells.specs.Cells.{pick, both}
 use Rattle.cells.proofs.Tests.{first-picked, second-picked}
 use Rattle.rows.specs.declared.{Row.Row}
 use Rattle.rows.specs.declared.Row.the-variants.{UnreadableCount}
@@ -13,10 +13,9 @@ use Rattle.areas.specs.Areas.{homeArea, countArea, keyArea, dataArea, readable,
 use Rattle.pack.specs.declared.{Head.Head}
 use Rattle.command.specs.declared.{Got.Got}
 use Rattle.command.specs.declared.Got.the-variants.{Sees, Fails}
-use Rattle.command.specs.Command.{areaIf, named, namedBy, noCounts}
+use Rattle.command.specs.Command.{areaIf, named, namedBy, noCounts, onHead, areasOf, allRead, countsIn, gets}
 use Rattle.table.specs.declared.{Names.Names}
 use Rattle.turn.specs.Turn.{Tracks}
-use Rattle.command.specs.Command.{onHead, areasOf, allRead, countsIn, gets}
 
 -- ---- an area before what else is got
 

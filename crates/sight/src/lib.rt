@@ -8,7 +8,7 @@ use table::Names;
 ghost use mathlib.Core.Path.{_≡_};
 ghost use mathlib.Core.List.{_∷_, []};
 ghost use lib.Dec.{ltb};
-ghost use Rattle.cells.specs.Choice.{both};
+ghost use Rattle.cells.specs.Cells.{both};
 ghost use Rattle.areas.specs.Areas.{homeArea};
 ghost use Rattle.pack.specs.declared.Head.{Head};
 ghost use Rattle.command.specs.declared.Got.the-variants.{Sees};

@@ -8,14 +8,11 @@ use native.Mathlib.Omega.{arith}
 use lib.Dec.{lit<}
 use lib.ListN.{length, getD, replicate, length-replicate, List·getD-eq-default}
 use lib.Seq.{take-all}
-use Rattle.cells.specs.Bytes.{part}
-use Rattle.cells.specs.Cells.{bytesOf, cellsOf, allBytes}
+use Rattle.cells.specs.Cells.{part, bytesOf, cellsOf, allBytes}
 use Rattle.cells.proofs.Numbers.{Bytes}
-use Rattle.house_check.specs.Check.{bitStep, feed, byteBits, bits, check}
-use Rattle.house_check.specs.Area.{agrees, goodCells, withCheck, cellsWithCheck}
+use Rattle.house_check.specs.Check.{bitStep, feed, byteBits, bits, check, agrees, goodCells, withCheck, cellsWithCheck}
 use Rattle.house_check.proofs.Cells.{length-laid, laid-good}
-use Rattle.areas.specs.Areas.{areaCells, readable, areaBytes, countArea, countsOf, countsAt, keyCells, keyArea, dataArea, recordCells, endBy}
-use Rattle.areas.specs.Flags.{flagOfR0, flagAfter}
+use Rattle.areas.specs.Areas.{areaCells, readable, areaBytes, countArea, countsOf, countsAt, keyCells, keyArea, dataArea, recordCells, endBy, flagOfR0, flagAfter}
 use Rattle.sound.specs.Sound.{Record, Records, none, more, Sound}
 use Rattle.sound.specs.Tracks.{homeWith, countWith, usualR0, fullHead, full}
 

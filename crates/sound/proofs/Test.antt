@@ -10,11 +10,9 @@ use lib.ListN.{length, getD, drop, List·getD-eq-default}
 use lib.Seq.{getD-drop}
 use lib.Dec.{eqb}
 use borrow.Author.Tests.{eqb-true, ne-eqb, eq-eqb}
-use Rattle.cells.specs.Choice.{pick, both, either}
-use Rattle.cells.specs.Cells.{trackCells}
+use Rattle.cells.specs.Cells.{pick, both, either, trackCells}
 use Rattle.cells.proofs.Tests.{first-of, second-of}
-use Rattle.areas.specs.Areas.{homeArea, homeFlag, r0First, countArea, keyArea, dataArea, readable, areaBytes, countsAt, recordCells, endBy}
-use Rattle.areas.specs.Flags.{flagOfR0, flagAfter}
+use Rattle.areas.specs.Areas.{homeArea, homeFlag, r0First, countArea, keyArea, dataArea, readable, areaBytes, countsAt, recordCells, endBy, flagOfR0, flagAfter}
 use Rattle.sound.specs.Sound.{flagAt, endAt, Record, Records, none, more, Sound}
 use Rattle.sound.specs.Test.{allGaps, oneZero, recordOk, recordsOk, soundly}
 

@@ -4,13 +4,9 @@ use mathlib.Core.Path.{_≡_, refl, sym, ap, _∙_}
 use mathlib.Core.Bool.{Bool, true, false, not, true≢false}
 use mathlib.Core.List.{List, [], _∷_, List·Memᴰ, List·Memᴰ·head, List·Memᴰ·tail, List·Memᴰ·not-nil}
 use borrow.Author.Tests.{not-true}
-use Rattle.cells.specs.Choice.{pick}
-use Rattle.cells.specs.Bytes.{part}
-use Rattle.cells.specs.Cells.{bytesOf, cellsOf, allBytes}
-use Rattle.house_check.specs.Check.{bitStep, feed, byteBits, bits, check}
-use Rattle.house_check.specs.Area.{agrees, goodCells, withCheck, cellsWithCheck}
-use Rattle.areas.specs.Areas.{areaCells, readable, areaBytes, countsOf, countsAt, keyCells, keyArea, dataArea, recordCells, endBy}
-use Rattle.areas.specs.Flags.{flagOfR0, flagAfter}
+use Rattle.cells.specs.Cells.{pick, part, bytesOf, cellsOf, allBytes}
+use Rattle.house_check.specs.Check.{bitStep, feed, byteBits, bits, check, agrees, goodCells, withCheck, cellsWithCheck}
+use Rattle.areas.specs.Areas.{areaCells, readable, areaBytes, countsOf, countsAt, keyCells, keyArea, dataArea, recordCells, endBy, flagOfR0, flagAfter}
 use Rattle.sound.specs.Sound.{Sound}
 use Rattle.sound.specs.Test.{allGaps, oneZero, recordOk, recordsOk, soundly, each}
 use Rattle.sound.specs.Tracks.{trackOf, homeWith, countWith, usualR0, homeAndR0, keyed, oneRecord, rightTrack, nearMisses}

@@ -6,8 +6,7 @@ use mathlib.Core.Bool.{true}
 use mathlib.Core.List.{List, [], _∷_}
 use lib.ListN.{length, getD}
 use Rattle.cells.specs.Cells.{trackCells, marker, gap}
-use Rattle.areas.specs.Areas.{homeArea, homeFlag, r0First, countArea, keyArea, dataArea, readable, areaBytes, countsAt, endBy}
-use Rattle.areas.specs.Flags.{flagOfR0, flagAfter}
+use Rattle.areas.specs.Areas.{homeArea, homeFlag, r0First, countArea, keyArea, dataArea, readable, areaBytes, countsAt, endBy, flagOfR0, flagAfter}
 
 -- the flag of the count area at c
 abbrev pub flagAt : List ℕ → ℕ → ℕ

@@ -4,10 +4,8 @@ use mathlib.Core.Bool.{Bool, true, false, not}
 use mathlib.Core.List.{List, [], _∷_}
 use lib.ListN.{length, getD, drop}
 use lib.Dec.{eqb}
-use Rattle.cells.specs.Choice.{pick, both, either}
-use Rattle.cells.specs.Cells.{trackCells, marker, gap}
-use Rattle.areas.specs.Areas.{homeArea, homeFlag, r0First, countArea, keyArea, dataArea, readable, areaBytes, countsAt}
-use Rattle.areas.specs.Flags.{flagOfR0, flagAfter}
+use Rattle.cells.specs.Cells.{pick, both, either, trackCells, marker, gap}
+use Rattle.areas.specs.Areas.{homeArea, homeFlag, r0First, countArea, keyArea, dataArea, readable, areaBytes, countsAt, flagOfR0, flagAfter}
 use Rattle.sound.specs.Sound.{flagAt, endAt}
 
 unfoldable pub allGaps : List ℕ → Bool

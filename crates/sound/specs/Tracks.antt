@@ -3,7 +3,7 @@ use Prim.Native.Nat.{ℕ, _-_}
 use mathlib.Core.List.{List, [], _∷_, _++_}
 use lib.ListN.{length, set, replicate}
 use Rattle.cells.specs.Cells.{trackCells, gap, marker}
-use Rattle.house_check.specs.Area.{cellsWithCheck}
+use Rattle.house_check.specs.Check.{cellsWithCheck}
 
 -- cells, and gaps to the track's end
 unfoldable pub trackOf : List ℕ → List ℕ

@@ -4,7 +4,7 @@ use mathlib.Core.Path.{_≡_}
 use mathlib.Core.Bool.{Bool, true}
 use mathlib.Core.List.{List, [], _∷_}
 use lib.Dec.{eqb}
-use Rattle.cells.specs.Choice.{both}
+use Rattle.cells.specs.Cells.{both}
 use Rattle.cells.proofs.Tests.{pick-all, first-of, second-of}
 use Rattle.table.specs.declared.{Rule.Rule}
 use Rattle.table.specs.Table.{Entry, controls, searches, reads, writes, unknown, find, ruleOf}

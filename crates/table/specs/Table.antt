@@ -5,7 +5,7 @@ use Prim.Native.Nat.{ℕ}
 use mathlib.Core.Bool.{Bool, true, false}
 use mathlib.Core.List.{List, [], _∷_}
 use lib.Dec.{eqb}
-use Rattle.cells.specs.Choice.{pick}
+use Rattle.cells.specs.Cells.{pick}
 use Rattle.mask.specs.declared.{Seeking.Seeking, Writing.Writing}
 use Rattle.table.specs.declared.{How.How, Licence.Licence, Bar.Bar, Aim.Aim, Names.Names, Serves.Serves, Control.Control, Write.Write, Act.Act, Rule.Rule}
 

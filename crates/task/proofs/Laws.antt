@@ -4,8 +4,7 @@ use mathlib.Core.Path.{_≡_, refl, sym, ap, _∙_, subst}
 use mathlib.Core.Bool.{Bool, true, false}
 use mathlib.Core.List.{List}
 use native.Mathlib.Omega.{arith}
-use Rattle.cells.specs.Choice.{pick}
-use Rattle.cells.specs.Cells.{trackCells, marks}
+use Rattle.cells.specs.Cells.{pick, trackCells, marks}
 use Rattle.rows.specs.declared.{Row.Row}
 use Rattle.hunt.specs.declared.{Spot.Spot, Next.Next}
 use Rattle.hunt.specs.Hunt.{WholeTrack, countFirst, spacedTo}
@@ -13,13 +12,12 @@ use Rattle.hunt.proofs.Inside.{NextOn, next-in, spot-in}
 use Rattle.held.specs.declared.{Selection.Selection, Position.Position, Orders.Orders}
 use Rattle.held.specs.declared.Selection.the-variants.{Nothing, On}
 use Rattle.pack.specs.declared.{Head.Head}
-use Rattle.command.specs.Command.{SelectedOn}
+use Rattle.command.specs.Command.{SelectedOn, Marks, marksOf, licensed, onRecord, onSelected, toNext, toServed, aimed, unlessBarred, planOf}
 use Rattle.task.specs.Inside.{selectedPlace}
 use Rattle.table.specs.declared.{Aim.Aim, Rule.Rule}
 use Rattle.turn.specs.Turn.{Tracks, alone}
 use Rattle.command.specs.declared.{Plan.Plan}
 use Rattle.command.specs.declared.Plan.the-variants.{Refuses}
-use Rattle.command.specs.Command.{Marks, marksOf, licensed, onRecord, onSelected, toNext, toServed, aimed, unlessBarred, planOf}
 
 pub come-to : (x : Next) (spot : Spot) (n : ℕ) → x ≡ Next.ComesTo spot n → spacedTo x ≤ trackCells → countFirst spot ≤ trackCells
 unfolding spacedTo

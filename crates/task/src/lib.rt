@@ -15,19 +15,16 @@ use table::Licence;
 use table::Rule;
 ghost use mathlib.Core.Path.{_≡_};
 ghost use Prim.Native.Nat.{_≤_};
-ghost use Rattle.cells.specs.Cells.{trackCells, marks};
-ghost use Rattle.cells.specs.Choice.{pick, either};
+ghost use Rattle.cells.specs.Cells.{trackCells, marks, pick, either};
 ghost use Rattle.rows.specs.declared.Row.the-variants as Row;
 ghost use Rattle.hunt.specs.Hunt.{WholeTrack, countFirst, spacedTo};
 ghost use Rattle.held.specs.declared.Selection.the-variants.{Nothing, On};
-ghost use Rattle.command.specs.Command.{SelectedOn};
+ghost use Rattle.command.specs.Command.{SelectedOn, equalId, equalIdOrKey, homeDone, recordWritten, task, marksOf, licensed, tallies, onRecord, onNext, onSelected, toNext, toServed, aimed, unlessBarred, planOf};
 ghost use Rattle.task.specs.Inside.{selectedPlace};
-ghost use Rattle.command.specs.Command.{equalId, equalIdOrKey, homeDone, recordWritten};
 ghost use Rattle.table.specs.Table.{ruleOf, looks, servesData, servesKey};
 ghost use Rattle.table.specs.declared.Aim.the-variants as Aim;
 ghost use Rattle.turn.specs.Turn.{alone};
 ghost use Rattle.command.specs.declared.Plan.the-variants.{Refuses, Works};
-ghost use Rattle.command.specs.Command.{task, marksOf, licensed, tallies, onRecord, onNext, onSelected, toNext, toServed, aimed, unlessBarred, planOf};
 
 const SEARCH_ID_EQUAL: u8 = 0x31;
 

@@ -4,7 +4,7 @@ use Prim.Native.Nat.{ℕ}
 use mathlib.Core.Bool.{Bool, true, false}
 use mathlib.Core.List.{List, [], _∷_}
 use lib.ListN.{length, take, drop}
-use Rattle.cells.specs.Bytes.{overlay}
+use Rattle.cells.specs.Cells.{overlay}
 use Rattle.rows.specs.declared.{Row.Row, Sense.Sense}
 use Rattle.rows.specs.Rows.{sense, senseOf, rowTakes}
 use Rattle.areas.specs.declared.{Area.Area}

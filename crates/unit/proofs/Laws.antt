@@ -5,8 +5,8 @@ use mathlib.Core.Bool.{false}
 use mathlib.Core.List.{List, []}
 use lib.ListN.{length, take}
 use lib.Seq.{take-nil, drop-nil}
-use Rattle.table.specs.Table.{isWrite}
-use Rattle.cells.specs.Bytes.{overlay}
+use Rattle.table.specs.Table.{isWrite, ruleOf}
+use Rattle.cells.specs.Cells.{overlay}
 use Rattle.cells.proofs.Laws.{overlay-none}
 use Rattle.rows.specs.declared.{Row.Row}
 use Rattle.areas.specs.declared.{Counts.Counts}
@@ -15,7 +15,6 @@ use Rattle.held.specs.declared.{Position.Position, Orders.Orders}
 use Rattle.command.specs.declared.{Got.Got, Task.Task, Plan.Plan, Job.Job, Ready.Ready}
 use Rattle.command.specs.declared.Got.the-variants.{Sees, Fails}
 use Rattle.table.specs.declared.{Control.Control, Act.Act, Write.Write, Rule.Rule}
-use Rattle.table.specs.Table.{ruleOf}
 use Rattle.turn.specs.declared.{Report.Report}
 use Rattle.turn.specs.Turn.{Tracks, Piece, alone, given, filled, reportOf, lay, isCheck}
 use Rattle.command.specs.declared.Plan.the-variants.{Refuses, Works}

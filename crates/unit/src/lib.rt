@@ -16,10 +16,9 @@ ghost use mathlib.Core.List.{List};
 ghost use Prim.Native.Nat.{ℕ};
 ghost use Rattle.cells.specs.Cells.{marks};
 ghost use Rattle.hunt.specs.Hunt.{WholeTrack};
-ghost use Rattle.command.specs.Command.{SelectedOn};
+ghost use Rattle.command.specs.Command.{SelectedOn, Sighted, sight, controlTurn, actTurn, readyBy, readyOf};
 ghost use Rattle.turn.specs.Turn.{Tracks, alone, filled, given, reportOf, lay};
 ghost use Rattle.command.specs.declared.Plan.the-variants.{Works};
-ghost use Rattle.command.specs.Command.{Sighted, sight, controlTurn, actTurn, readyBy, readyOf};
 ghost use Rattle.unit.specs.Unit.{Accepts};
 
 // All that a task names is read.

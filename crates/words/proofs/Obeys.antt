@@ -7,13 +7,12 @@ use native.Mathlib.Omega.{arith}
 use lib.ListN.{length}
 use lib.Dec.{leb, ltb}
 use borrow.Author.Tests.{leb-true}
-use Rattle.cells.specs.Choice.{pick}
+use Rattle.cells.specs.Cells.{pick}
 use Rattle.cells.proofs.Tests.{pick-all}
 use Rattle.words.specs.declared.{Word.Word, Tested.Tested, Cause.Cause}
 use Rattle.words.specs.declared.Cause.the-variants.{Area}
 use Rattle.words.specs.declared.Tested.the-variants.{Obey, Jump, Bad}
-use Rattle.words.specs.Status.{Storable, statusFor, programCheck}
-use Rattle.words.specs.Words.{isTic, inPlace, flagsKnown, testedCommand, testedWord, tested, wordAt}
+use Rattle.words.specs.Words.{Storable, statusFor, programCheck, isTic, inPlace, flagsKnown, testedCommand, testedWord, tested, wordAt}
 
 -- a word to obey is one whose area lies in storage
 abbrev pub TestedIn : List ℕ → Tested → Type 0

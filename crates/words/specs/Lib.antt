@@ -1,3 +1,2 @@
 -- The model of the channel's words.
 pub mod Words
-pub mod Status

@@ -1,12 +1,11 @@
--- Document 01, "Channel words": the address word, command words, program checks in their order. Assumes nothing.
-use Prim.Native.Nat.{ℕ, _+_, _≤_, _/_, _%_}
+-- Document 01, "Channel words": the address word, command words, program checks in their order, the status word.
+use Prim.Native.Nat.{ℕ, _+_, _≤_, _/_, _%_, _*_, _<_}
 use mathlib.Core.Bool.{Bool}
-use mathlib.Core.List.{List}
+use mathlib.Core.List.{List, [], _∷_}
 use lib.ListN.{length, getD}
 use lib.Dec.{ltb, leb, eqb}
-use Rattle.cells.specs.Choice.{pick, both}
-use Rattle.cells.specs.Bytes.{be16, be24}
-use Rattle.words.specs.declared.{Word.Word, Begun.Begun, Cause.Cause, Tested.Tested}
+use Rattle.cells.specs.Cells.{pick, both, be16, be24, overlay}
+use Rattle.words.specs.declared.{Word.Word, Begun.Begun, Cause.Cause, Tested.Tested, Status.Status}
 
 -- HOUSE: every next word's address, and the status word's, is taken modulo 2 to the 24
 abbrev pub addresses : ℕ
@@ -83,3 +82,51 @@ tested s at afterTic = pick (inPlace s at) (testedWord s afterTic (wordAt s at))
 -- the word's area lies in storage, as its tests made sure
 pub record Reaches (s : List ℕ) (w : Word) : Type 0 where
   pub area : w .address + w .count ≤ length s
+
+-- stored at 64: key and zeros, address, unit status, channel status, count left
+abbrev pub statusAt : ℕ
+statusAt = 64
+
+abbrev pub statusBytes : Status → List ℕ
+statusBytes x =
+    x .key * 16
+    ∷ x .address / 65536
+    ∷ x .address / 256 % 256
+    ∷ x .address % 256
+    ∷ x .unit
+    ∷ x .channel
+    ∷ x .left / 256
+    ∷ x .left % 256
+    ∷ []
+
+-- what a status word needs to be stored: storage that reaches so far, a key of four bits, an address of 24
+pub record Storable (s : List ℕ) (x : Status) : Type 0 where
+  pub reaches : statusAt + 8 ≤ length s
+  pub key : x .key < 16
+  pub address : x .address < addresses
+
+unfoldable pub stored : List ℕ → Status → List ℕ
+stored s x = overlay s statusAt (statusBytes x)
+
+-- a status word's address is that of the last command word + 8
+unfoldable pub statusFor : ℕ → ℕ → ℕ → ℕ → ℕ → Status
+statusFor key at unit channel left = record {
+  key = key;
+  address = along at wordBytes;
+  unit = unit;
+  channel = channel;
+  left = left;
+}
+
+-- the channel status of a program check, by its cause
+unfoldable pub channelFor : Cause → ℕ
+channelFor Cause.Place = 0x20
+channelFor Cause.TicAfterTic = 0x20
+channelFor Cause.Flags = 0x20
+channelFor Cause.NoCount = 0x20
+channelFor Cause.Code = 0x20
+channelFor Cause.Area = 0x20
+
+-- a program check's status word: unit status 00, HOUSE count 0
+unfoldable pub programCheck : ℕ → ℕ → Cause → Status
+programCheck key at cause = statusFor key at 0x00 (channelFor cause) 0

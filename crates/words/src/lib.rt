@@ -3,9 +3,8 @@ ghost use mathlib.Core.Path.{_≡_};
 ghost use mathlib.Core.List.{List};
 ghost use Prim.Native.Nat.{ℕ, _+_};
 ghost use lib.ListN.{length};
-ghost use Rattle.cells.specs.Bytes.{be16, be24};
-ghost use Rattle.words.specs.Words.{along, begunBy, wordAt, testedCommand, testedWord, tested};
-ghost use Rattle.words.specs.Status.{Storable, stored, statusFor, channelFor, programCheck};
+ghost use Rattle.cells.specs.Cells.{be16, be24};
+ghost use Rattle.words.specs.Words.{along, begunBy, wordAt, testedCommand, testedWord, tested, Storable, stored, statusFor, channelFor, programCheck};
 
 // A command word.
 pub struct Word {

@@ -6,13 +6,11 @@ use mathlib.Core.List.{List, _∷_}
 use native.Mathlib.Omega.{arith}
 use lib.ListN.{length, getD}
 use borrow.Author.Tests.{lt-ltb, le-ltb}
-use Rattle.cells.specs.Bytes.{part, overlay, padded}
-use Rattle.cells.specs.Cells.{marker}
+use Rattle.cells.specs.Cells.{part, overlay, padded, marker}
 use Rattle.cells.proofs.Tests.{first-picked, second-picked}
-use Rattle.house_check.specs.Area as House
+use Rattle.house_check.specs.Check as House
 use Rattle.areas.specs.declared.{Area.Area, Counts.Counts}
-use Rattle.areas.specs.Areas.{keyArea, dataArea, recordCells, endBy, needed}
-use Rattle.areas.specs.Flags.{flagOfR0, flagAfter}
+use Rattle.areas.specs.Areas.{keyArea, dataArea, recordCells, endBy, needed, flagOfR0, flagAfter}
 use Rattle.areas.proofs.Laws.{home-flag}
 use Rattle.hunt.specs.Hunt.{WholeTrack}
 use Rattle.room.specs.Room.{fits}
@@ -20,11 +18,10 @@ use Rattle.room.proofs.Laws.{fits-ends}
 use Rattle.recording.specs.Recording.{areaWritten, wiped, Lies}
 use Rattle.format.specs.Format.{newCounts, newRecord, formatted, Ends}
 use Rattle.format.proofs.Laws.{length-area, length-new}
-use Rattle.command.specs.Command.{named, seenWith}
+use Rattle.command.specs.Command.{named, seenWith, onHead, areasOf, seenOf, writesOver, goesOver, allRecorded, Sight, areasRead, sight, r0Turn, recordTurn, keySent, writeTurn}
 use Rattle.table.specs.declared.{Names.Names, Write.Write, Act.Act}
 use Rattle.turn.specs.Turn.{alone, lay, isCheck}
 use Rattle.command.specs.declared.{Job.Job}
-use Rattle.command.specs.Command.{onHead, areasOf, seenOf, writesOver, goesOver, allRecorded, Sight, areasRead, sight, r0Turn, recordTurn, keySent, writeTurn}
 use Rattle.writes.specs.Writes.{DoesWrite, goneOver, updated, Over}
 use Rattle.writes.proofs.Laws.{home-lays, new-fits, new-lays, update-recorded, update-lays, recorded-over}
 

@@ -9,25 +9,22 @@ use lib.ListN.{length, take, drop, replicate, length-append, length-replicate}
 use lib.Seq.{drop-length}
 use lib.Dec.{ltb}
 use borrow.Author.Tests.{lt-ltb}
-use Rattle.cells.specs.Choice.{pick, both}
-use Rattle.cells.specs.Bytes.{overlay, part, padded}
-use Rattle.cells.specs.Cells.{trackCells}
+use Rattle.cells.specs.Cells.{pick, both, overlay, part, padded, trackCells}
 use Rattle.cells.proofs.Tests.{first-of, second-of, first-picked}
 use Rattle.rows.specs.declared.{Row.Row}
 use Rattle.rows.specs.declared.Row.the-variants.{Unreadable, NoRoom}
-use Rattle.house_check.specs.Area as House
+use Rattle.house_check.specs.Check as House
 use Rattle.areas.specs.declared.{Area.Area, Counts.Counts}
 use Rattle.areas.specs.Areas.{homeBytes, keyArea, dataArea}
 use Rattle.hunt.specs.Hunt.{WholeTrack}
 use Rattle.room.specs.Room.{fits}
 use Rattle.room.proofs.Laws.{fits-ends}
 use Rattle.recording.specs.Recording.{areaWritten}
-use Rattle.command.specs.Command.{areaIf, named}
+use Rattle.command.specs.Command.{areaIf, named, Sight, allRecorded, failTurn, endTurn, endTurnAt, piece, toEnd, homeTurn, newTurn, overPiece, keySent, updateTurn}
 use Rattle.format.specs.Format.{formatted, recorded}
 use Rattle.format.proofs.Laws.{formatted-is, length-area, recorded-lies}
 use Rattle.turn.specs.Turn.{Piece, Turn, lay, isCheck, checkTurn}
 use Rattle.command.specs.declared.{Task.Task}
-use Rattle.command.specs.Command.{Sight, allRecorded, failTurn, endTurn, endTurnAt, piece, toEnd, homeTurn, newTurn, overPiece, keySent, updateTurn}
 use Rattle.writes.specs.Writes.{goneOver, updated, Over}
 
 -- ---- gaps to the track's end

@@ -6,24 +6,22 @@ use mathlib.Core.List.{List, [], _∷_, _++_}
 use native.Mathlib.Omega.{arith}
 use lib.ListN.{getD}
 use lib.Dec.{ltb}
-use Rattle.cells.specs.Choice.{pick, both}
+use Rattle.cells.specs.Cells.{pick, both}
 use Rattle.cells.proofs.Tests.{first-picked, second-picked}
 use Rattle.rows.specs.declared.Row.the-variants.{Unreadable, NoRoom}
 use Rattle.areas.specs.declared.{Area.Area, Counts.Counts}
-use Rattle.areas.specs.Areas.{keyArea, dataArea, recordCells, endBy, needed}
-use Rattle.areas.specs.Flags.{flagOfR0, flagAfter}
+use Rattle.areas.specs.Areas.{keyArea, dataArea, recordCells, endBy, needed, flagOfR0, flagAfter}
 use Rattle.hunt.specs.declared.Spot.the-variants.{Marker}
 use Rattle.room.specs.Room.{fits}
 use Rattle.room.proofs.Laws.{fits-ends}
 use Rattle.held.specs.declared.Selection.the-variants.{On}
 use Rattle.turn.specs.declared.{Ending.Ending, Transfer.Transfer, Report.Report}
 use Rattle.turn.specs.declared.Ending.the-variants.{Normal}
-use Rattle.command.specs.Command.{areaIf, named}
+use Rattle.command.specs.Command.{areaIf, named, task, allRecorded, Sight, sight, failTurn, endTurnAt, endTurn, endingOf, piece, toEnd, homeTurn, recordTakes, newTurn, r0Turn, recordTurn, overPiece, keySent, updateTurn, writeTurn}
 use Rattle.format.specs.Format.{newCounts, recorded}
 use Rattle.table.specs.declared.{Write.Write}
 use Rattle.turn.specs.Turn.{Piece, Moves, Takes, Turn, alone, transferOf, reportOf}
 use Rattle.command.specs.declared.{Task.Task, Job.Job}
-use Rattle.command.specs.Command.{task, allRecorded, Sight, sight, failTurn, endTurnAt, endTurn, endingOf, piece, toEnd, homeTurn, recordTakes, newTurn, r0Turn, recordTurn, overPiece, keySent, updateTurn, writeTurn}
 use Rattle.ending.specs.Ending.{reportAt, checkReport}
 use Rattle.ending.proofs.Laws.{ended-at, ended, failed-by}
 use Rattle.writes.specs.Writes.{DoesWrite, newReport, r0Report, recordReport, overReportBy, overReport}

@@ -4,8 +4,7 @@ use mathlib.Core.Path.{_≡_}
 use mathlib.Core.Bool.{Bool, true, false}
 use mathlib.Core.List.{List}
 use lib.Dec.{ltb}
-use Rattle.cells.specs.Choice.{pick}
-use Rattle.cells.specs.Bytes.{part}
+use Rattle.cells.specs.Cells.{pick, part}
 use Rattle.areas.specs.declared.{Counts.Counts}
 use Rattle.areas.specs.Areas.{r0First, keyArea, dataArea, recordCells, needed}
 use Rattle.rows.specs.declared.{Row.Row}
@@ -14,11 +13,10 @@ use Rattle.room.specs.Room.{fits}
 use Rattle.recording.specs.Recording.{areaWritten, Lies}
 use Rattle.held.specs.declared.{Selection.Selection}
 use Rattle.turn.specs.declared.{Ending.Ending, Transfer.Transfer, Report.Report}
-use Rattle.command.specs.Command.{named}
+use Rattle.command.specs.Command.{named, task, allRecorded, endingOf, recordTakes, keySent}
 use Rattle.format.specs.Format.{newCounts}
 use Rattle.table.specs.declared.{Names.Names, Write.Write, Act.Act}
 use Rattle.command.specs.declared.{Task.Task, Job.Job}
-use Rattle.command.specs.Command.{task, allRecorded, endingOf, recordTakes, keySent}
 use Rattle.ending.specs.Ending.{reportAt, checkReport}
 
 -- the job's row has this write, and Write R0 has read the home address

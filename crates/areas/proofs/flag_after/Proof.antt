@@ -1,5 +1,5 @@
 -- `areas::flag_after` meets its contract: the definition's own arithmetic. Assumes nothing.
-use Rattle.areas.specs.Flags.{flagAfter}
+use Rattle.areas.specs.Areas.{flagAfter}
 use borrow.Author.Needs.{needs}
 use Rattle.areas.proofs.flag_after.Statement.{statement}
 use Rattle.areas.proofs.flag_after.Tie as tie

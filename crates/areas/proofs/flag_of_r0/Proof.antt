@@ -1,5 +1,5 @@
 -- `areas::flag_of_zero` meets its contract: the definition's own arithmetic. Assumes nothing.
-use Rattle.areas.specs.Flags.{flagOfR0}
+use Rattle.areas.specs.Areas.{flagOfR0}
 use borrow.Author.Needs.{needs}
 use Rattle.areas.proofs.flag_of_r0.Statement.{statement}
 use Rattle.areas.proofs.flag_of_r0.Tie as tie

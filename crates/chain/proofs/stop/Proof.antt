@@ -1,7 +1,7 @@
 -- `chain::stop` meets its contract: the program check's status word, and a chain at its end. Assumes nothing.
 use mathlib.Core.Path.{sym, subst}
 use native.Mathlib.Omega.{arith}
-use Rattle.words.specs.Status.{Storable}
+use Rattle.words.specs.Words.{Storable}
 use Rattle.words.proofs.Obeys.{check-storable}
 use Rattle.chain.proofs.Laws.{stopped}
 use borrow.Author.Needs.{needs}

@@ -1,6 +1,6 @@
 -- By whether the chain goes on: the next word, or the status word.
 use mathlib.Core.Path.{ap, _∙_}
-use Rattle.words.specs.Status.{stored}
+use Rattle.words.specs.Words.{stored}
 use Rattle.channel.proofs.Laws.{held-on, held-rests, storage-on, storage-ends, storable}
 use borrow.Author.Needs.{needs}
 use Rattle.channel.proofs.settle.Statement.{statement}

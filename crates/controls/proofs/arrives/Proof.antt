@@ -1,7 +1,6 @@
 -- Each arm knows what the address came to, and makes of it what the model has there.
-use Rattle.turn.specs.Turn.{transferOf, reportOf}
+use Rattle.turn.specs.Turn.{transferOf, reportOf, positionSought, positionAt}
 use Rattle.command.specs.Command.{sight, arrivalTurn}
-use Rattle.turn.specs.Turn.{positionSought, positionAt}
 use borrow.Author.Needs.{needs}
 use Rattle.controls.proofs.arrives.Statement.{statement}
 use Rattle.controls.proofs.arrives.Tie as tie

@@ -3,7 +3,7 @@ use Prim.Native.Nat.{_-_, _≤_, min}
 use mathlib.Core.Path.{_≡_, refl, sym, ap, _∙_}
 use native.Mathlib.Omega.{arith}
 use lib.ListN.{length, take, drop, length-set}
-use Rattle.cells.specs.Bytes.{overlay}
+use Rattle.cells.specs.Cells.{overlay}
 use Rattle.cells.proofs.Laws.{overlay-none}
 use Rattle.turn.specs.Turn.{filled}
 use Rattle.command.specs.Command.{senseBytes}

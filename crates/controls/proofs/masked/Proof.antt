@@ -1,6 +1,5 @@
 -- The byte is the mask now and a mask is set; the place stands and sense is cleared.
-use Rattle.turn.specs.Turn.{ordersOf}
-use Rattle.turn.specs.Turn.{transferOf, reportOf}
+use Rattle.turn.specs.Turn.{ordersOf, transferOf, reportOf}
 use Rattle.command.specs.Command.{sight, maskedTurn}
 use borrow.Author.Needs.{needs}
 use Rattle.controls.proofs.masked.Statement.{statement}

@@ -1,5 +1,5 @@
 -- Each byte is made as the model has it. Assumes nothing.
-use Rattle.cells.specs.Bytes.{part}
+use Rattle.cells.specs.Cells.{part}
 use Rattle.held.specs.Bytes.{encoded}
 use borrow.Author.Needs.{needs}
 use Rattle.held.proofs.first_bytes.Statement.{statement}

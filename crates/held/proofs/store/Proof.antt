@@ -3,7 +3,7 @@ use Prim.Native.Nat.{_-_, _≤_}
 use mathlib.Core.Path.{_≡_, refl, sym}
 use native.Mathlib.Omega.{arith}
 use lib.ListN.{length, length-set}
-use Rattle.cells.specs.Bytes.{overlay, padded}
+use Rattle.cells.specs.Cells.{overlay, padded}
 use Rattle.cells.proofs.Laws.{overlay-none}
 use Rattle.held.proofs.Laws.{one-more}
 use borrow.Author.Needs.{needs}

@@ -6,8 +6,7 @@ use Prim.Native.Nat.{_-_, _≤_}
 use native.Mathlib.Omega.{arith}
 use lib.ListN.{length, drop}
 use borrow.Author.Tests.{eq-eqb, ne-eqb}
-use Rattle.cells.specs.Choice.{both}
-use Rattle.cells.specs.Cells.{isByte, allBytes}
+use Rattle.cells.specs.Cells.{both, isByte, allBytes}
 use Rattle.cells.proofs.Every.{Every, every-not, every-so, every-end}
 use borrow.Author.Needs.{needs}
 use Rattle.house_check.proofs.all_bytes.Statement.{statement}

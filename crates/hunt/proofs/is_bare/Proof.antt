@@ -8,8 +8,7 @@ use native.Mathlib.Omega.{arith}
 use lib.Dec.{eqb}
 use lib.ListN.{length, drop}
 use borrow.Author.Tests.{eq-eqb, ne-eqb}
-use Rattle.cells.specs.Choice.{both}
-use Rattle.cells.specs.Cells.{marker}
+use Rattle.cells.specs.Cells.{both, marker}
 use Rattle.cells.proofs.Every.{Every, every-not, every-so, every-end}
 use Rattle.hunt.specs.Hunt.{markerless}
 use borrow.Author.Needs.{needs}

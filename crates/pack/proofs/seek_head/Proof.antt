@@ -1,7 +1,7 @@
 -- `pack::seek_head` meets its contract: it makes the model's test. Assumes nothing.
 use borrow.Author.Needs.{needs}
 use Rattle.cells.proofs.Tests.{tests}
-use Rattle.pack.specs.Shapes.{seekHead}
+use Rattle.pack.specs.Pack.{seekHead}
 use Rattle.pack.proofs.seek_head.Statement.{statement}
 use Rattle.pack.proofs.seek_head.Tie as tie
 

@@ -1,7 +1,7 @@
 -- `pack::seek_to` meets its contract: it makes the model's tests, in their order. Assumes nothing.
 use borrow.Author.Needs.{needs}
 use Rattle.cells.proofs.Tests.{tests}
-use Rattle.pack.specs.Shapes.{seekTo}
+use Rattle.pack.specs.Pack.{seekTo}
 use Rattle.pack.proofs.seek_to.Statement.{statement}
 use Rattle.pack.proofs.seek_to.Tie as tie
 

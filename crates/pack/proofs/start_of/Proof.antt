@@ -2,7 +2,7 @@
 use Prim.Native.Nat.{_*_, _<_, _≤_}
 use mathlib.Core.Path.{refl}
 use native.Mathlib.Omega.{arith}
-use Rattle.pack.specs.Tracks.{trackNo, startOf}
+use Rattle.pack.specs.Pack.{trackNo, startOf}
 use Rattle.pack.proofs.Laws.{track-below, few}
 use borrow.Author.Needs.{needs}
 use Rattle.pack.proofs.start_of.Statement.{statement}

@@ -3,8 +3,7 @@ use Prim.Native.Nat.{_-_, _≤_}
 use mathlib.Core.Path.{_≡_, refl, sym}
 use native.Mathlib.Omega.{arith}
 use lib.ListN.{length, take, length-set}
-use Rattle.cells.specs.Bytes.{part, overlay}
-use Rattle.cells.specs.Cells.{bytesOf}
+use Rattle.cells.specs.Cells.{part, overlay, bytesOf}
 use Rattle.cells.proofs.Laws.{overlay-none}
 use Rattle.reads.proofs.Laws.{cells-more, cells-all}
 use borrow.Author.Needs.{needs}

@@ -3,10 +3,8 @@ use Prim.Native.Nat.{ℕ, _+_, _-_}
 use mathlib.Core.Path.{_≡_, ap, _∙_}
 use native.Mathlib.Omega.{arith}
 use lib.ListN.{take, drop, length-set}
-use Rattle.cells.specs.Bytes.{overlay, part}
-use Rattle.cells.specs.Cells.{bytesOf, cellsOf}
-use Rattle.house_check.specs.Check.{check}
-use Rattle.house_check.specs.Area.{sixteen}
+use Rattle.cells.specs.Cells.{overlay, part, bytesOf, cellsOf}
+use Rattle.house_check.specs.Check.{check, sixteen}
 use Rattle.recording.proofs.Laws.{check-put}
 use borrow.Author.Needs.{needs}
 use Rattle.recording.proofs.record_check.Statement.{statement}

@@ -1,5 +1,5 @@
 -- Each arm knows its cause, and gives what the table has there. Assumes nothing.
-use Rattle.words.specs.Status.{channelFor}
+use Rattle.words.specs.Words.{channelFor}
 use borrow.Author.Needs.{needs}
 use Rattle.words.proofs.channel_for.Statement.{statement}
 use Rattle.words.proofs.channel_for.Tie as tie

@@ -1,7 +1,7 @@
 -- `words::program_check` meets its contract, by the two calls. Assumes nothing.
 use Prim.Native.Nat.{ℕ}
 use mathlib.Core.Path.{ap, _∙_}
-use Rattle.words.specs.Status.{statusFor, programCheck}
+use Rattle.words.specs.Words.{statusFor, programCheck}
 use borrow.Author.Needs.{needs}
 use Rattle.words.proofs.program_check.Statement.{statement}
 use Rattle.words.proofs.program_check.Tie as tie

@@ -1,5 +1,5 @@
 -- The fields are as given, and the address is what `advanced` ensures.
-use Rattle.words.specs.Status.{statusFor}
+use Rattle.words.specs.Words.{statusFor}
 use borrow.Author.Needs.{needs}
 use Rattle.words.proofs.status_for.Statement.{statement}
 use Rattle.words.proofs.status_for.Tie as tie

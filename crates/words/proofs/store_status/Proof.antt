@@ -2,8 +2,8 @@
 use native.Mathlib.Omega.{arith}
 use lib.ListN.{length-set}
 use lib.Seq.{sets-eq}
-use Rattle.cells.specs.Bytes.{overlay}
-use Rattle.words.specs.Status.{statusBytes, stored}
+use Rattle.cells.specs.Cells.{overlay}
+use Rattle.words.specs.Words.{statusBytes, stored}
 use borrow.Author.Needs.{needs}
 use Rattle.words.proofs.store_status.Statement.{statement}
 use Rattle.words.proofs.store_status.Tie as tie
