@@ -1,5 +1,5 @@
 -- Laws of areas: an area off the track is not readable; one on it is readable where its cells are good; a count area's values are
--- those of its cells; how many cells a record takes. Assumes nothing.
+-- those of its cells; how many cells a record takes.
 use Prim.Native.Nat.{ℕ, _+_, _-_, _*_, _<_, _≤_, min}
 use mathlib.Core.Path.{_≡_, sym, ap, ap₂, _∙_}
 use mathlib.Core.Bool.{Bool, true, false}

@@ -8,6 +8,8 @@ use lib.Dec.{eqb}
 use Rattle.cells.specs.Cells.{pick, be16, part, bytesOf}
 use Rattle.house_check.specs.Check.{checkBytes, goodCells}
 use Rattle.rows.specs.declared.{Row.Row}
+-- Part: Home, Count, Key, Data. Area: part, first (its first cell), bytes (without the two of the check). Counts, what a count area says: flag, cc,
+-- hh, r, kl, dl. CountRead: Reads counts, or Fails where the area is not readable.
 use Rattle.areas.specs.declared.{Part.Part, Area.Area, Counts.Counts, CountRead.CountRead}
 
 -- ---- an area

@@ -1,4 +1,4 @@
--- What the code's calls come to, in the model's words, and that a refusal leaves every byte as it was. Assumes nothing.
+-- What the code's calls come to, in the model's words, and that a refusal leaves every byte as it was.
 use Prim.Native.Nat.{ℕ}
 use mathlib.Core.Path.{_≡_, refl, sym, ap, _∙_}
 use mathlib.Core.Bool.{Bool}

@@ -1,5 +1,4 @@
 -- The calls that a host links, over lent bytes: what each answers, and what it leaves of the held bytes, storage and cells.
--- Assumes nothing.
 use Prim.Native.Nat.{ℕ}
 use mathlib.Core.List.{List}
 use lib.ListN.{length}

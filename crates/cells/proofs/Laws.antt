@@ -1,4 +1,4 @@
--- Laws of lists and cells that every crate above cites. Assumes nothing.
+-- Laws of lists and cells that every crate above cites.
 use Prim.Native.Nat.{ℕ, zero, suc, _+_, _-_, _<_, _≤_, min}
 use mathlib.Core.Path.{_≡_, refl, sym, ap, ap₂, _∙_}
 use mathlib.Core.List.{List, [], _∷_, _++_, append-nil, append-assoc}

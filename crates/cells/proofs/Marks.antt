@@ -1,4 +1,4 @@
--- Laws of markers: which cells of a track hold one. Assumes nothing.
+-- Laws of markers: which cells of a track hold one.
 use Prim.Native.Nat.{ℕ, zero, suc, _+_, _<_, _≤_}
 use mathlib.Core.Path.{_≡_, refl, sym, ap, ap₂, _∙_}
 use mathlib.Core.Bool.{Bool, true, false}

@@ -1,4 +1,4 @@
--- Laws of bytes, and of bytes as one unsigned number: of two of one length, the first byte that differs tells which is less. Assumes nothing.
+-- Laws of bytes, and of bytes as one unsigned number: of two of one length, the first byte that differs tells which is less.
 use Prim.Native.Nat.{ℕ, suc, _+_, _*_, _<_, _≤_}
 use mathlib.Core.Path.{_≡_, sym, subst}
 use mathlib.Core.List.{List, [], _∷_}

@@ -1,4 +1,4 @@
--- What a branch of the code says of the tests of the model. Assumes nothing.
+-- What a branch of the code says of the tests of the model.
 use Prim.Native.Nat.{ℕ}
 use mathlib.Core.Bool.{Bool, true, false, false≢true}
 use mathlib.Core.Path.{_≡_, refl, ap}

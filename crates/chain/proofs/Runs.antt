@@ -1,4 +1,4 @@
--- Laws of runs: one word more, none, and that running a words and then b is running a + b. Assumes nothing.
+-- Laws of runs: one word more, none, and that running a words and then b is running a + b.
 use Prim.Native.Nat.{ℕ, zero, suc, _+_, _-_, _<_, _≤_}
 use mathlib.Core.Path.{_≡_, refl, sym, ap, _∙_}
 use mathlib.Core.Bool.{Bool, true, false}

@@ -1,5 +1,5 @@
 -- A No-op that chains, in one stroke. No rule of document 01's: `Strokes` among the proofs shows that the model's step comes to it, so that a run of
--- No-ops needs no track. Assumes nothing.
+-- No-ops needs no track.
 use Prim.Native.Nat.{ℕ}
 use mathlib.Core.Path.{_≡_}
 use mathlib.Core.Bool.{Bool, false}

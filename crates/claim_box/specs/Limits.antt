@@ -1,4 +1,4 @@
--- Both sides of each limit of a pack, and room far past a track. Assumes nothing.
+-- Both sides of each limit of a pack, and room far past a track.
 use Prim.Native.Nat.{ℕ, _*_}
 use mathlib.Core.Path.{_≡_}
 use mathlib.Core.Bool.{Bool, true, false}

@@ -1,6 +1,6 @@
 -- Document 01, "Where the head stands": work on a record reads its count area first, then every area it names; an area passed over is
 -- not read, nor the data area where DL = 0. Examples of it on one track, and of demand 3: damage that is passed over, and damage that is
--- read. Assumes nothing.
+-- read.
 use Prim.Native.Nat.{ℕ, zero, suc}
 use mathlib.Core.Path.{_≡_}
 use mathlib.Core.Bool.{Bool, true, false}

@@ -1,6 +1,6 @@
 -- The areas of a soundly written track: each is readable, and two of them are one area or have no cell in common. Why: every cell of a
 -- record is a recorded byte, so no marker stands in one; so each marker begins a record that the track is written with, and of two
--- records one ends before the other begins. Assumes nothing.
+-- records one ends before the other begins.
 use Prim.Native.Nat.{ℕ, zero, suc, _+_, _-_, _/_, _<_, _≤_}
 use native.Mathlib.Omega.{arith}
 use native.Mathlib.Decide.{decLt, ℕ-discrete}

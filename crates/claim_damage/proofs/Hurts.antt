@@ -1,6 +1,6 @@
 -- Damage to a soundly written track: the markers stand where they stood, every area but the one hit has its cells, and the one hit is
 -- not readable. Why: two areas of the track have no cell in common, a recorded byte is no marker before or after, and the check of 16
--- bits finds every change within 16 successive bits. Assumes nothing.
+-- bits finds every change within 16 successive bits.
 use Prim.Native.Nat.{ℕ, zero, suc, _+_, _<_, _≤_}
 use native.Mathlib.Omega.{arith}
 use native.Mathlib.Decide.{decLt, decLe}

@@ -1,4 +1,4 @@
--- Two outcomes equal to the same call of the model are equal to each other, and so field by field. Assumes nothing.
+-- Two outcomes equal to the same call of the model are equal to each other, and so field by field.
 use mathlib.Core.Path.{_≡_, ap}
 use Rattle.look.specs.Look.{Looked}
 use Rattle.box_export.specs.Calls.{Call, call}

@@ -28,6 +28,8 @@ use Rattle.table.specs.declared.{How.How, Licence.Licence, Bar.Bar, Aim.Aim, Na
 use Rattle.table.specs.Table.{ruleOf, looks, servesData, servesKey, isHome}
 use Rattle.turn.specs.declared.{Ending.Ending}
 use Rattle.turn.specs.Turn.{Tracks, TrackArea, Piece, Moves, None, Gives, Takes, Turn, turn, positionAt, positionSought, ordersOf, after, checkTurn}
+-- Task, where it works: head, place (after its work; of a record the first cell of its count area), selection, tally. Plan: Refuses row, or Works task.
+-- Got: Sees counts, or Fails row. Job, a command that has read all that it names: code, rule, position, orders, task, counts. Ready: Refuses row, or Acts job.
 use Rattle.command.specs.declared.{Task.Task, Plan.Plan, Got.Got, Job.Job, Ready.Ready}
 
 -- ==== which record it works on. Of the tracks only the markers are seen

@@ -1,5 +1,5 @@
 -- Laws of the comparison of two lists of bytes of one length, for a loop over them: what is left to compare stands for the whole; the first
--- byte that differs decides. Assumes nothing.
+-- byte that differs decides.
 use Prim.Native.Nat.{ℕ, _+_, _*_, _<_, _≤_}
 use mathlib.Core.Path.{_≡_, refl, sym, ap, ap₂, _∙_, subst}
 use mathlib.Core.List.{List}

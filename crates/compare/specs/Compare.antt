@@ -1,9 +1,10 @@
--- Document 01, "Commands": a search compares the first m bytes as unsigned numbers; high means the track's is higher. Assumes nothing.
+-- Document 01, "Commands": a search compares the first m bytes as unsigned numbers; high means the track's is higher.
 use Prim.Native.Nat.{ℕ, _+_, _≤_}
 use mathlib.Core.List.{List}
 use lib.ListN.{length}
 use lib.Dec.{ltb, eqb}
 use Rattle.cells.specs.Cells.{pick, number, part, bytesOf}
+-- Compared: Low, Equal or High, as the track's number stands to the one sent.
 use Rattle.compare.specs.declared.{Compared.Compared}
 
 -- how the track's number stands to storage's

@@ -1,5 +1,5 @@
 -- What the code's calls come to, in the model's words: bytes of a count, a part of the bytes sent, areas laid one behind the other, an area's
--- cells looked at. Assumes nothing.
+-- cells looked at.
 use Prim.Native.Nat.{ℕ, zero, suc, _+_, _-_, _*_, _<_, _≤_, min}
 use mathlib.Core.Path.{_≡_, refl, sym, ap, ap₂, _∙_}
 use mathlib.Core.Bool.{Bool, false}

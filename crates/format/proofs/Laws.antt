@@ -1,5 +1,5 @@
 -- Laws of what a write lays: a new record takes the cells that its counts say; a format write keeps the cells before it, lays its own
--- and leaves gaps behind, on a track as long as it was; an area of byte cells lies on the track. Assumes nothing.
+-- and leaves gaps behind, on a track as long as it was; an area of byte cells lies on the track.
 use Prim.Native.Nat.{ℕ, zero, suc, _+_, _-_, _<_, _≤_}
 use mathlib.Core.Path.{_≡_, refl, sym, ap, ap₂, _∙_}
 use mathlib.Core.Bool.{Bool, true, false}

@@ -1,5 +1,5 @@
 -- Document 01, "What lies on a track" and "Commands": the cells of a new record; all later cells are made 0; which cells an update
--- needs. Assumes nothing.
+-- needs.
 use Prim.Native.Nat.{ℕ, _+_, _≤_}
 use mathlib.Core.Path.{_≡_}
 use mathlib.Core.Bool.{Bool}

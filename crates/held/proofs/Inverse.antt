@@ -1,6 +1,5 @@
 -- Held states and their 64 bytes are inverse. A number is its high part times 256 and its low byte, so what is taken apart is put together
 -- again; bytes below 256 are taken apart again as they were. The flags, the selection and the zeros are pinned by the tests of the bytes.
--- Assumes nothing.
 use Prim.Native.Nat.{ℕ, zero, suc, _+_, _*_, _/_, _%_, _^_, _<_, _≤_}
 use mathlib.Core.Path.{_≡_, refl, sym, ap, ap₂, _∙_, subst}
 use mathlib.Core.Bool.{Bool, true, false, false≢true}

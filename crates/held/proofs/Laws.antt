@@ -1,4 +1,4 @@
--- Laws of the held state's bytes: zeros looked at one by one, the tests taken in runs, two stores that make all 64. Assumes nothing.
+-- Laws of the held state's bytes: zeros looked at one by one, the tests taken in runs, two stores that make all 64.
 use Prim.Native.Nat.{ℕ, _+_, _<_, _≤_}
 use mathlib.Core.Path.{_≡_, refl, sym, ap, _∙_}
 use mathlib.Core.Bool.{Bool, true, false}

@@ -1,4 +1,4 @@
--- The held state as the 64 bytes that a host keeps. Numbers of several bytes are big-endian. Assumes nothing.
+-- The held state as the 64 bytes that a host keeps. Numbers of several bytes are big-endian.
 use Prim.Native.Nat.{ℕ, _+_, _*_, _/_, _%_, _^_, _<_}
 use mathlib.Core.Bool.{Bool, true, false}
 use mathlib.Core.List.{List, [], _∷_, _++_}
@@ -8,6 +8,7 @@ use Rattle.cells.specs.Cells.{pick, both, be16, be24}
 use Rattle.rows.specs.Rows.{sense}
 use Rattle.pack.specs.Pack.{cylinder, head}
 use Rattle.hunt.specs.declared.{Spot.Spot}
+-- Kept, what lent bytes say: Holds held, or Wrong.
 use Rattle.held.specs.declared.{Selection.Selection, Held.Held, Kept.Kept}
 
 abbrev pub heldBytes : ℕ

@@ -1,7 +1,9 @@
--- Document 01, "Where the head stands" and "Commands": what the box holds from call to call. Assumes nothing.
+-- Document 01, "Where the head stands" and "Commands": what the box holds from call to call.
 use mathlib.Core.Bool.{false}
 use Rattle.rows.specs.Rows.{sense}
 use Rattle.pack.specs.Pack.{cylinder, head}
+-- Position, what survives a chain: cylinder, head, place, sense. Orders, what a command finds: mask, mask_set, before (a code, 0 for none), whole (its
+-- search was equal over the whole field), tally, selection. Selection: Nothing, or On spot. Channel: going, key, next, after_tic. Held: all three.
 use Rattle.held.specs.declared.{Selection.Selection, Position.Position, Orders.Orders, Channel.Channel, Held.Held}
 
 -- a fresh box stands at cylinder 0, head 0, place 0, with mask 0, sense all zero and no chain going

@@ -1,5 +1,5 @@
 -- Cutting an allowance into parts changes nothing. Why: a run of a + b words is a run of a and then of b, and a run leaves a legal world
--- legal, so that no refusal comes in between. Assumes nothing.
+-- legal, so that no refusal comes in between.
 use Prim.Native.Nat.{ℕ, _+_}
 use mathlib.Core.Path.{_≡_, refl, sym, ap, _∙_}
 use mathlib.Core.Bool.{Bool, true, false}

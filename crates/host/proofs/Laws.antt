@@ -1,4 +1,4 @@
--- What passes the refusals is legal, and what is legal passes them. Assumes nothing.
+-- What passes the refusals is legal, and what is legal passes them.
 use Prim.Native.Nat.{ℕ}
 use mathlib.Core.Path.{_≡_, refl}
 use mathlib.Core.Bool.{Bool, true, false}

@@ -1,4 +1,4 @@
--- What the code's tests and calls come to, in the model's words. Assumes nothing.
+-- What the code's tests and calls come to, in the model's words.
 use Prim.Native.Nat.{ℕ, _+_, _-_, _≤_}
 use mathlib.Core.Path.{_≡_, refl, sym, ap, _∙_}
 use mathlib.Core.Bool.{Bool, true, false, not}

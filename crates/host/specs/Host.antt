@@ -1,4 +1,4 @@
--- Document 01, "What the host hears": the answers, the refusals in their order, a start, and going on. Assumes nothing.
+-- Document 01, "What the host hears": the answers, the refusals in their order, a start, and going on.
 use Prim.Native.Nat.{ℕ}
 use mathlib.Core.Bool.{true, false}
 use mathlib.Core.List.{[], _∷_}
@@ -12,6 +12,7 @@ use Rattle.held.specs.declared.{Held.Held}
 use Rattle.held.specs.Held.{fresh}
 use Rattle.chain.specs.Step.{World, world, run}
 use Rattle.chain.specs.Legal.{storageFits, heldFits}
+-- Answer: the table's, each below with its number. Guarded, what the refusals of any call come to: Passes, or Answers answer.
 use Rattle.host.specs.declared.{Answer.Answer, Guarded.Guarded}
 
 -- document 01's number of each answer

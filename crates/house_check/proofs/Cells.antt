@@ -1,4 +1,4 @@
--- Cells of an area: their bytes into the register one after another, what is clean, and the law on cells. Assumes nothing.
+-- Cells of an area: their bytes into the register one after another, what is clean, and the law on cells.
 use mathlib.Core.Path.{_≡_, refl, sym, ap, ap₂, _∙_, subst}
 use mathlib.Core.Bool.{Bool, true, false}
 use mathlib.Core.List.{List, [], _∷_, _++_}

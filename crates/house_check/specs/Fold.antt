@@ -3,6 +3,7 @@
 use mathlib.Core.List.{List, [], _∷_, _++_}
 use Prim.Native.Nat.{ℕ, _*_, _/_, _%_, _^_}
 use lib.Bits.{bitXor}
+-- Rest: four words, a, b, c, d.
 use Rattle.house_check.specs.declared.{Rest.Rest}
 
 -- the four cells of a word, the first of them the lowest; of a cell only the low byte counts

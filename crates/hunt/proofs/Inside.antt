@@ -1,4 +1,4 @@
--- What the hunt comes to is a record of the track, R0 or one with a marker: so a place after it is at most the track's end. Assumes nothing.
+-- What the hunt comes to is a record of the track, R0 or one with a marker: so a place after it is at most the track's end.
 use Prim.Native.Nat.{ℕ, suc, _+_, _<_, _≤_}
 use mathlib.Core.Path.{_≡_, refl, sym, _∙_, subst}
 use mathlib.Core.Bool.{Bool, true, false, true≢false}

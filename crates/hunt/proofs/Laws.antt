@@ -1,4 +1,4 @@
--- Laws of the hunt: one cell on, none left, and that cells before 7 and cells without a marker make no difference. Assumes nothing.
+-- Laws of the hunt: one cell on, none left, and that cells before 7 and cells without a marker make no difference.
 use Prim.Native.Nat.{ℕ, zero, suc, _+_, _-_, _<_, _≤_, max}
 use mathlib.Core.Path.{_≡_, sym, ap, _∙_}
 use mathlib.Core.Bool.{Bool, true, false, not}

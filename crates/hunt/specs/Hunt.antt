@@ -1,5 +1,5 @@
 -- Document 01, "Where the head stands" and "Commands", Space Record: which record is next. It goes by where the markers are and by
--- nothing else on the track. Assumes nothing.
+-- nothing else on the track.
 use Prim.Native.Nat.{ℕ, suc, _+_}
 use mathlib.Core.Path.{_≡_}
 use mathlib.Core.Bool.{Bool, true, false, not}
@@ -7,6 +7,7 @@ use mathlib.Core.List.{List, [], _∷_}
 use lib.ListN.{length, getD, drop}
 use lib.Dec.{ltb, eqb}
 use Rattle.cells.specs.Cells.{pick, both, trackCells, firstMarker, marker}
+-- Found: At cell, or Nothing. Spot, a record: R0, or Marker cell. Next: ComesTo spot, past so many index points, or NoMarker.
 use Rattle.hunt.specs.declared.{Found.Found, Spot.Spot, Next.Next}
 
 -- a whole track

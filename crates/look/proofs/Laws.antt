@@ -1,4 +1,4 @@
--- What the code's looks come to, in the model's words: each test of the code is one of the model's, in the same order. Assumes nothing.
+-- What the code's looks come to, in the model's words: each test of the code is one of the model's, in the same order.
 use Prim.Native.Nat.{ℕ}
 use mathlib.Core.Path.{_≡_, refl, sym, ap, _∙_}
 use mathlib.Core.Bool.{Bool, true, false}

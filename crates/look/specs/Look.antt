@@ -1,5 +1,5 @@
 -- A look at one track, without a box: where the next marker is, where an area lies, whether it is readable. Document 01, "What lies on a
--- track" and "Where the head stands". DECISIONS 65 to 68. Assumes nothing.
+-- track" and "Where the head stands". DECISIONS 65 to 68.
 use Prim.Native.Nat.{ℕ}
 use mathlib.Core.Bool.{Bool}
 use mathlib.Core.List.{List, [], _∷_}
@@ -10,6 +10,7 @@ use Rattle.areas.specs.declared.{Part.Part, Area.Area, CountRead.CountRead}
 use Rattle.areas.specs.Areas.{readable, homeArea, countArea, readCount, keyArea, dataArea}
 use Rattle.hunt.specs.declared.{Found.Found}
 use Rattle.hunt.specs.Hunt.{hunt}
+-- Marked: Cell p, NoMarker from the place on, NoTrack. Look: WrongCall, Readable area, Unreadable area, Absent, NotKnown.
 use Rattle.look.specs.declared.{Marked.Marked, Look.Look}
 
 -- ---- markers

@@ -1,10 +1,11 @@
--- Document 01, "Commands", the file mask: which bytes are masks, and what a mask bars. Bit 0 is the leftmost. Assumes nothing.
+-- Document 01, "Commands", the file mask: which bytes are masks, and what a mask bars. Bit 0 is the leftmost.
 use Prim.Native.Nat.{ℕ, _/_, _%_}
 use mathlib.Core.Bool.{Bool, true, false}
 use mathlib.Core.List.{List, [], _∷_}
 use lib.ListN.{getD}
 use lib.Dec.{eqb}
 use Rattle.cells.specs.Cells.{both}
+-- Writing, the writes that a mask tells apart: HomeOrR0 (19, 15), CountKeyData (1D), Update (05, 0D). Seeking: Seek (07), SeekCylinder (0B), SeekHead (1B).
 use Rattle.mask.specs.declared.{Writing.Writing, Seeking.Seeking}
 
 -- bits 0 and 1, and bits 3 and 4, each pair a number 0 to 3

@@ -1,5 +1,4 @@
 -- Laws of the pack: a track of it lies inside its cells, and a track that is lent on comes back in its place, every other cell as it was.
--- Assumes nothing.
 use Prim.Native.Nat.{ℕ, suc, _+_, _-_, _*_, _<_, _≤_}
 use mathlib.Core.Path.{_≡_, sym, ap, ap₂, _∙_}
 use mathlib.Core.Bool.{Bool, true, false}

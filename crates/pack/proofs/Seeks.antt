@@ -1,4 +1,4 @@
--- A seek that is accepted goes to a cylinder and a head of the pack. Assumes nothing.
+-- A seek that is accepted goes to a cylinder and a head of the pack.
 use Prim.Native.Nat.{ℕ, _<_}
 use mathlib.Core.Path.{_≡_, refl}
 use mathlib.Core.Bool.{Bool, true, false}

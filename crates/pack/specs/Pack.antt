@@ -5,6 +5,7 @@ use mathlib.Core.Bool.{Bool}
 use lib.Dec.{ltb, leb, eqb}
 use Rattle.cells.specs.Cells.{pick, both, trackCells, part, overlay}
 use Rattle.rows.specs.declared.{Row.Row}
+-- Cylinder, Head: a number each, .0. Shape, what the host says of the pack: cylinders, heads. Sought, a seek's address: To cylinder head, or Fails row.
 use Rattle.pack.specs.declared.{Cylinder.Cylinder, Head.Head, Shape.Shape, Sought.Sought}
 use mathlib.Core.Path.{_≡_}
 use mathlib.Core.List.{List}

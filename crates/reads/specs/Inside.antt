@@ -9,6 +9,7 @@ use Rattle.areas.specs.declared.{Counts.Counts}
 use Rattle.areas.specs.Areas.{homeBytes, keyArea, dataArea}
 use Rattle.recording.specs.Recording.{countSent}
 use Rattle.table.specs.declared.{Names.Names}
+-- Rest: at, where the next byte goes; from, how many bytes are left out before it.
 use Rattle.reads.specs.declared.{Rest.Rest}
 use Rattle.turn.specs.declared.{Transfer.Transfer, Report.Report}
 use Rattle.command.specs.declared.{Job.Job}

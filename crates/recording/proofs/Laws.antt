@@ -1,4 +1,4 @@
--- Laws for the loops that record: one byte more, zeros behind the bytes, the check behind them, one gap more. Assumes nothing.
+-- Laws for the loops that record: one byte more, zeros behind the bytes, the check behind them, one gap more.
 use Prim.Native.Nat.{ℕ, zero, suc, _+_, _-_, _/_, _%_, _<_, _≤_, min}
 use mathlib.Core.Path.{_≡_, refl, sym, ap, _∙_}
 use mathlib.Core.List.{List, [], _∷_, _++_, map, map-append, append-nil}

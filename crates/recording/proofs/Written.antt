@@ -1,4 +1,4 @@
--- What is recorded can be read: an area that was written is readable, and reading it returns its bytes. Assumes nothing.
+-- What is recorded can be read: an area that was written is readable, and reading it returns its bytes.
 use Prim.Native.Nat.{ℕ, _+_, _≤_}
 use mathlib.Core.Path.{_≡_, sym, ap, _∙_}
 use mathlib.Core.Bool.{true}

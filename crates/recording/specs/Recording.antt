@@ -1,5 +1,5 @@
 -- Document 01, "What lies on a track" and "Commands": an area is recorded with its check; missing bytes are zeros, surplus is not
--- fetched; gaps are written as 0. Assumes nothing.
+-- fetched; gaps are written as 0.
 use Prim.Native.Nat.{ℕ, _+_, _-_, _≤_}
 use mathlib.Core.List.{List, _∷_, _++_}
 use lib.ListN.{length, take, replicate}

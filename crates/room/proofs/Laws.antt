@@ -1,5 +1,5 @@
 -- Laws of room left: it is 4,096 less first and needed cells together, so it fits 64 bits wherever the record begins, and is not
--- negative exactly where the record ends on the track. Assumes nothing.
+-- negative exactly where the record ends on the track.
 use Prim.Native.Nat.{ℕ, zero, suc, _+_, _-_, _<_, _≤_, _^_}
 use mathlib.Core.Path.{_≡_, refl, sym, ap, ap₂, _∙_, subst}
 use mathlib.Core.Bool.{Bool, true, false}

@@ -1,5 +1,5 @@
 -- A track filled to room 0 is soundly written, whatever fills it: its data area is good by the law of what is laid, and no cell is left
--- behind it. Assumes nothing.
+-- behind it.
 use Prim.Native.Nat.{ℕ, zero, suc, _+_, _-_, _<_, _≤_}
 use mathlib.Core.Path.{_≡_, refl, sym, ap, _∙_}
 use mathlib.Core.Bool.{true}

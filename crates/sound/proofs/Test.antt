@@ -1,5 +1,5 @@
 -- The test is the predicate: a track that passes it is soundly written, and a soundly written track passes it. Why: the test makes the
--- predicate's comparisons one by one, and no track has more records than cells. Assumes nothing.
+-- predicate's comparisons one by one, and no track has more records than cells.
 use Prim.Native.Nat.{ℕ, zero, suc, _+_, _-_, _<_, _≤_}
 use native.Mathlib.Omega.{arith}
 use native.Mathlib.Decide.{decLt, ℕ-discrete}

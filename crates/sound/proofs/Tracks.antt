@@ -1,4 +1,4 @@
--- Some tracks are soundly written and near misses are not, by the test. Assumes nothing.
+-- Some tracks are soundly written and near misses are not, by the test.
 use Prim.Native.Nat.{ℕ}
 use mathlib.Core.Path.{_≡_, refl, sym, ap, _∙_}
 use mathlib.Core.Bool.{Bool, true, false, not, true≢false}

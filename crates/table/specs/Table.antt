@@ -7,6 +7,12 @@ use mathlib.Core.List.{List, [], _∷_}
 use lib.Dec.{eqb}
 use Rattle.cells.specs.Cells.{pick}
 use Rattle.mask.specs.declared.{Seeking.Seeking, Writing.Writing}
+-- Licence, which command must come before: Any; Look, a search or a read; HomeAddress, Write HA or Search HA equal over its field; WrittenOrEqual, Write
+-- R0 or Count Key Data, or 31 or 29 equal over their field; EqualIdOrKey, 31 or 29 so; EqualId, 31 so. Bar: Nothing, Seeks seeking, Writes writing.
+-- Aim: Stays; HomeAddress or R0, at the index point; NextId, by Search ID's rule; Next; NextForData and NextForKey, the record selected, if the command
+-- before serves Read Data, or also Read KD and searches by key, or else the next; Selected. Names, which areas are read: Nothing, HomeAddress, Count key
+-- data. Act: Control control, Search how, Read counted (a count's 8 bytes move), Write write. Update key: data, with the key or not. How: what satisfies
+-- a search. Serves: Nobody, Data (Read Data), DataAndKey (also Read KD and searches by key).
 use Rattle.table.specs.declared.{How.How, Licence.Licence, Bar.Bar, Aim.Aim, Names.Names, Serves.Serves, Control.Control, Write.Write, Act.Act, Rule.Rule}
 
 -- ---- values of the columns

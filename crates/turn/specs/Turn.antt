@@ -10,6 +10,8 @@ use Rattle.rows.specs.Rows.{sense, senseOf, rowTakes}
 use Rattle.areas.specs.declared.{Area.Area}
 use Rattle.pack.specs.declared.{Cylinder.Cylinder, Head.Head}
 use Rattle.held.specs.declared.{Position.Position, Orders.Orders, Selection.Selection}
+-- Ending: Normal, Satisfied (a search), Exception (Unit Exception), Check row (Unit Check). Transfer: None, Gives or Takes so many. Report, what the
+-- channel is told: ending, transfer, position, orders.
 use Rattle.turn.specs.declared.{Ending.Ending, Transfer.Transfer, Report.Report}
 
 -- all that a command sees of the pack: the tracks of the cylinder, by their heads

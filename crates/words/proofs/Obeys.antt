@@ -1,4 +1,4 @@
--- A word that passes its tests has its area in storage. Assumes nothing.
+-- A word that passes its tests has its area in storage.
 use Prim.Native.Nat.{ℕ, _+_, _%_, _<_, _≤_}
 use mathlib.Core.Path.{_≡_, refl}
 use mathlib.Core.Bool.{Bool, true, false}

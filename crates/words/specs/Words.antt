@@ -5,6 +5,8 @@ use mathlib.Core.List.{List, [], _∷_}
 use lib.ListN.{length, getD}
 use lib.Dec.{ltb, leb, eqb}
 use Rattle.cells.specs.Cells.{pick, both, be16, be24, overlay}
+-- Word: code, address, flags, count. Status: key, address, unit, channel, left. Begun, what the address word says: Begins key first, or Refused.
+-- Tested, what a word's tests come to: Obey word, Jump address (a TIC), or Bad cause. Cause: the tests below, by their names.
 use Rattle.words.specs.declared.{Word.Word, Begun.Begun, Cause.Cause, Tested.Tested, Status.Status}
 
 -- HOUSE: every next word's address, and the status word's, is taken modulo 2 to the 24

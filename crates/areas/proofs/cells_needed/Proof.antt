@@ -1,4 +1,4 @@
--- `areas::cells_needed` meets its contract: a marker more than the record's own cells. Assumes nothing.
+-- `areas::cells_needed` meets its contract: a marker more than the record's own cells.
 use Rattle.areas.specs.Areas.{needed}
 use borrow.Author.Needs.{needs}
 use Rattle.areas.proofs.cells_needed.Statement.{statement}

@@ -1,4 +1,4 @@
--- `areas::counts_at` meets its contract: each value is that of its cells. Assumes nothing.
+-- `areas::counts_at` meets its contract: each value is that of its cells.
 use Rattle.areas.proofs.Laws.{counts-are}
 use borrow.Author.Needs.{needs}
 use Rattle.areas.proofs.counts_at.Statement.{statement}

@@ -1,4 +1,4 @@
--- `areas::data_area` meets its contract: it lies behind the count and the key, if there is one. Assumes nothing.
+-- `areas::data_area` meets its contract: it lies behind the count and the key, if there is one.
 use mathlib.Core.Path.{_∙_}
 use Rattle.areas.proofs.Laws.{data-lies}
 use borrow.Author.Needs.{needs}

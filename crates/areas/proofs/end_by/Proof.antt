@@ -1,4 +1,4 @@
--- `areas::end_by` meets its contract: the definition's own sum. Assumes nothing.
+-- `areas::end_by` meets its contract: the definition's own sum.
 use Rattle.areas.specs.Areas.{endBy}
 use borrow.Author.Needs.{needs}
 use Rattle.areas.proofs.end_by.Statement.{statement}

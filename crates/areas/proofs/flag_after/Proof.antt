@@ -1,4 +1,4 @@
--- `areas::flag_after` meets its contract: the definition's own arithmetic. Assumes nothing.
+-- `areas::flag_after` meets its contract: the definition's own arithmetic.
 use Rattle.areas.specs.Areas.{flagAfter}
 use borrow.Author.Needs.{needs}
 use Rattle.areas.proofs.flag_after.Statement.{statement}

@@ -1,5 +1,4 @@
 -- `areas::is_readable` meets its contract: an area off the track is not readable, and one on it is where its lent cells are good.
--- Assumes nothing.
 use Prim.Native.Nat.{_+_, _-_}
 use mathlib.Core.Path.{sym, _∙_}
 use native.Mathlib.Omega.{arith}

@@ -1,4 +1,4 @@
--- `areas::key_area` meets its contract: the definition's own sum. Assumes nothing.
+-- `areas::key_area` meets its contract: the definition's own sum.
 use Rattle.areas.specs.Areas.{keyArea}
 use borrow.Author.Needs.{needs}
 use Rattle.areas.proofs.key_area.Statement.{statement}

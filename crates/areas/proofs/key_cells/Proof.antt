@@ -1,4 +1,4 @@
--- `areas::key_cells` meets its contract, by the two laws of a key's cells. Assumes nothing.
+-- `areas::key_cells` meets its contract, by the two laws of a key's cells.
 use mathlib.Core.Path.{sym}
 use native.Mathlib.Omega.{arith}
 use Rattle.areas.proofs.Laws.{no-key, some-key}

@@ -1,4 +1,4 @@
--- `areas::read_count` meets its contract: by the test, the values or none. Assumes nothing.
+-- `areas::read_count` meets its contract: by the test, the values or none.
 use Rattle.areas.proofs.Laws.{count-reads, count-fails}
 use borrow.Author.Needs.{needs}
 use Rattle.areas.proofs.read_count.Statement.{statement}

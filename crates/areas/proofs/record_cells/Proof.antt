@@ -1,4 +1,4 @@
--- `areas::record_cells` meets its contract: count, key and data areas, one after another. Assumes nothing.
+-- `areas::record_cells` meets its contract: count, key and data areas, one after another.
 use Rattle.areas.specs.Areas.{recordCells}
 use borrow.Author.Needs.{needs}
 use Rattle.areas.proofs.record_cells.Statement.{statement}

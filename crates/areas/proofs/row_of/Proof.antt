@@ -1,4 +1,4 @@
--- `areas::row_of` meets its contract: a count area has a row of its own, and the others one row. Assumes nothing.
+-- `areas::row_of` meets its contract: a count area has a row of its own, and the others one row.
 use mathlib.Core.Path.{_≡_, refl}
 use mathlib.Core.List.{[], _∷_}
 use types.Run.{OneOf, miss}

@@ -1,4 +1,4 @@
--- `box_export::poplar_fresh` meets its contract: the fresh box's bytes, if there is room for just these. Assumes nothing.
+-- `box_export::poplar_fresh` meets its contract: the fresh box's bytes, if there is room for just these.
 use mathlib.Core.Path.{sym, ap}
 use Rattle.held.specs.Bytes.{bit}
 use Rattle.box_export.proofs.Laws.{fresh-written}

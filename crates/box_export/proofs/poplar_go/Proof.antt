@@ -1,5 +1,4 @@
 -- `box_export::poplar_go` meets its contract: what is heard, put back in bytes; or bytes that encode no state, refused in 4's place.
--- Assumes nothing.
 use Rattle.box_export.proofs.Laws.{go-told, go-wrong}
 use borrow.Author.Needs.{needs}
 use Rattle.box_export.proofs.poplar_go.Statement.{statement}

@@ -1,5 +1,4 @@
 -- `box_export::poplar_start` meets its contract: what is heard, put back in bytes; or bytes that encode no state, refused in 4's place.
--- Assumes nothing.
 use Rattle.box_export.proofs.Laws.{start-told, start-wrong}
 use borrow.Author.Needs.{needs}
 use Rattle.box_export.proofs.poplar_start.Statement.{statement}

@@ -1,4 +1,4 @@
--- `cells::byte_at` meets its contract: past the end the list's default is 0. Assumes nothing.
+-- `cells::byte_at` meets its contract: past the end the list's default is 0.
 use mathlib.Core.Path.{sym}
 use lib.ListN.{List·getD-eq-default}
 use borrow.Author.Needs.{needs}

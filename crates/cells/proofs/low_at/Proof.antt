@@ -1,4 +1,4 @@
--- `cells::low_at` meets its contract: past the end the list's default is 0, and so is its low byte. Assumes nothing.
+-- `cells::low_at` meets its contract: past the end the list's default is 0, and so is its low byte.
 use mathlib.Core.Path.{sym, ap}
 use lib.ListN.{List·getD-eq-default}
 use Rattle.cells.specs.Cells.{byteOf}

@@ -1,4 +1,4 @@
--- `chain::advance` meets its contract: a run of No-ops in one stroke, or one step of the model. Assumes nothing.
+-- `chain::advance` meets its contract: a run of No-ops in one stroke, or one step of the model.
 use mathlib.Core.Path.{sym, _∙_}
 use Rattle.chain.proofs.Strokes.{by-step, by-stroke}
 use borrow.Author.Needs.{needs}

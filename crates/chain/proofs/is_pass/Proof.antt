@@ -1,4 +1,4 @@
--- `chain::is_pass` meets its contract: by what the word's tests say. Assumes nothing.
+-- `chain::is_pass` meets its contract: by what the word's tests say.
 use mathlib.Core.Path.{refl}
 use borrow.Author.Needs.{needs}
 use Rattle.chain.specs.Stroke.{passing}

@@ -1,4 +1,4 @@
--- `chain::jump` meets its contract, by the sum modulo 2 to the 24. Assumes nothing.
+-- `chain::jump` meets its contract, by the sum modulo 2 to the 24.
 use Rattle.chain.specs.Step.{jumped}
 use borrow.Author.Needs.{needs}
 use Rattle.chain.proofs.jump.Statement.{statement}

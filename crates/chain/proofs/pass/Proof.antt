@@ -1,4 +1,4 @@
--- `chain::pass` meets its contract. The invariant: the No-ops so far are one stroke, which has used some of the allowance. Assumes nothing.
+-- `chain::pass` meets its contract. The invariant: the No-ops so far are one stroke, which has used some of the allowance.
 use borrow.Author.Needs.{needs}
 use Prim.Native.Nat.{_<_}
 use borrow.Author.Tests.{not-false}

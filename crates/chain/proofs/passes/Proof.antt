@@ -1,4 +1,4 @@
--- `chain::passes` meets its contract: the code, then flag 40. Assumes nothing.
+-- `chain::passes` meets its contract: the code, then flag 40.
 use Rattle.chain.proofs.Strokes.{other-code, by-flag}
 use Rattle.chain.proofs.passes.Statement.{statement}
 use Rattle.chain.proofs.passes.Tie as tie

@@ -1,5 +1,5 @@
 -- `chain::run` meets its contract. The invariant: what is left of the allowance, from the world as it is, comes to the whole from the world
--- as it was; and a legal world stays legal. Assumes nothing.
+-- as it was; and a legal world stays legal.
 use mathlib.Core.Path.{_≡_, refl, sym, _∙_}
 use native.Mathlib.Omega.{arith}
 use lib.ListN.{length}

@@ -1,5 +1,4 @@
 -- `chain::step` meets its contract: what the word's tests say decides which call, and each leaves what the model has there.
--- Assumes nothing.
 use mathlib.Core.Path.{refl}
 use Rattle.chain.specs.Step.{stepBy}
 use Rattle.chain.proofs.Fits.{key-in}

@@ -1,4 +1,4 @@
--- `chain::stop` meets its contract: the program check's status word, and a chain at its end. Assumes nothing.
+-- `chain::stop` meets its contract: the program check's status word, and a chain at its end.
 use mathlib.Core.Path.{sym, subst}
 use native.Mathlib.Omega.{arith}
 use Rattle.words.specs.Words.{Storable}

@@ -1,5 +1,5 @@
 -- `compare::compare` meets its contract. The invariant: the bytes passed are the same and came to one number, and what is left to
--- compare after them stands for the whole. Assumes nothing.
+-- compare after them stands for the whole.
 use Prim.Native.Nat.{ℕ, _-_, _≤_}
 use mathlib.Core.Path.{_≡_, sym, _∙_}
 use native.Mathlib.Omega.{arith}

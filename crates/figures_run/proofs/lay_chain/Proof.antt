@@ -1,4 +1,4 @@
--- `figures_run::lay_chain` meets its contract: a store into storage leaves its length. Assumes nothing.
+-- `figures_run::lay_chain` meets its contract: a store into storage leaves its length.
 use lib.ListN.{length-set}
 use native.Mathlib.Omega.{arith}
 use borrow.Author.Needs.{needs}

@@ -1,4 +1,4 @@
--- `figures_run::lay_record` meets its contract: what it writes leaves the track's length. Assumes nothing.
+-- `figures_run::lay_record` meets its contract: what it writes leaves the track's length.
 use lib.ListN.{length-set}
 use native.Mathlib.Omega.{arith}
 use borrow.Author.Needs.{needs}

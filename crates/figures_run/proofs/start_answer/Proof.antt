@@ -1,4 +1,4 @@
--- `figures_run::start_answer` meets its contract: document 01's numbers of the answers are 0 to 7. Assumes nothing.
+-- `figures_run::start_answer` meets its contract: document 01's numbers of the answers are 0 to 7.
 use Prim.Native.Nat.{ℕ, _<_}
 use mathlib.Core.Path.{_≡_}
 use native.Mathlib.Omega.{arith}

@@ -1,4 +1,4 @@
--- An area off the track is not all recorded; of one on it the lent cells are looked at. Assumes nothing.
+-- An area off the track is not all recorded; of one on it the lent cells are looked at.
 use Prim.Native.Nat.{_+_, _-_}
 use mathlib.Core.Path.{sym, _∙_}
 use native.Mathlib.Omega.{arith}

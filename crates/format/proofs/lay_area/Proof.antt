@@ -1,4 +1,4 @@
--- The bytes lent on are the part that is sent, as far as it is there. Assumes nothing.
+-- The bytes lent on are the part that is sent, as far as it is there.
 use mathlib.Core.List.{List}
 use mathlib.Core.Path.{ap, _∙_}
 use Prim.Native.Nat.{ℕ}

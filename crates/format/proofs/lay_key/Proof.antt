@@ -1,4 +1,4 @@
--- The key area is written where there is one. Assumes nothing.
+-- The key area is written where there is one.
 use mathlib.Core.Path.{_∙_}
 use native.Mathlib.Omega.{arith}
 use Rattle.format.proofs.Calls.{key-lies, key-laid, key-none}

@@ -1,4 +1,4 @@
--- The marker, and the record behind it. Assumes nothing.
+-- The marker, and the record behind it.
 use Rattle.format.proofs.Calls.{marked-laid}
 use borrow.Author.Needs.{needs}
 use Rattle.format.proofs.lay_marked.Statement.{statement}

@@ -1,4 +1,4 @@
--- Count, key and data are laid one behind the other. Assumes nothing.
+-- Count, key and data are laid one behind the other.
 use mathlib.Core.Path.{_∙_}
 use Rattle.format.proofs.Calls.{count-fits, key-fits, data-fits, record-laid}
 use borrow.Author.Needs.{needs}

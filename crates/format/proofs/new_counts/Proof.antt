@@ -1,4 +1,4 @@
--- The bytes are read one by one, zeros where they are missing. Assumes nothing.
+-- The bytes are read one by one, zeros where they are missing.
 use Rattle.format.proofs.Calls.{counts-new}
 use borrow.Author.Needs.{needs}
 use Rattle.format.proofs.new_counts.Statement.{statement}

@@ -1,4 +1,4 @@
--- One cell is stored. Assumes nothing.
+-- One cell is stored.
 use native.Mathlib.Omega.{arith}
 use Rattle.cells.proofs.Laws.{set-overlay}
 use borrow.Author.Needs.{needs}

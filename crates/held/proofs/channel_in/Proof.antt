@@ -1,4 +1,4 @@
--- Each field is read where the model has it. Assumes nothing.
+-- Each field is read where the model has it.
 use Rattle.held.specs.Bytes.{decoded}
 use borrow.Author.Needs.{needs}
 use Rattle.held.proofs.channel_in.Statement.{statement}

@@ -1,4 +1,4 @@
--- Each return stands behind the runs of tests before it. Assumes nothing.
+-- Each return stands behind the runs of tests before it.
 use mathlib.Core.Path.{_≡_}
 use mathlib.Core.Bool.{true, false}
 use Rattle.cells.proofs.Tests.{tests}

@@ -1,4 +1,4 @@
--- Each return stands behind the flags looked at before it. Assumes nothing.
+-- Each return stands behind the flags looked at before it.
 use Rattle.cells.proofs.Tests.{tests}
 use Rattle.held.specs.Bytes.{flagsFit}
 use borrow.Author.Needs.{needs}

@@ -1,4 +1,4 @@
--- The three parts are read as the model reads them. Assumes nothing.
+-- The three parts are read as the model reads them.
 use borrow.Author.Needs.{needs}
 use Rattle.held.proofs.held_in.Statement.{statement}
 use Rattle.held.proofs.held_in.Tie as tie

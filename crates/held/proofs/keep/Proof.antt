@@ -1,4 +1,4 @@
--- By the test of the bytes, the state that they say, or that they are wrong. Assumes nothing.
+-- By the test of the bytes, the state that they say, or that they are wrong.
 use Rattle.held.specs.Bytes.{kept}
 use borrow.Author.Needs.{needs}
 use Rattle.held.proofs.keep.Statement.{statement}

@@ -1,4 +1,4 @@
--- Where there are 64 bytes, two stores lay all 64 over; else nothing is stored. Assumes nothing.
+-- Where there are 64 bytes, two stores lay all 64 over; else nothing is stored.
 use mathlib.Core.Path.{_≡_, sym}
 use native.Mathlib.Omega.{arith}
 use lib.ListN.{length}

@@ -1,4 +1,4 @@
--- Each number is taken apart as the model has it. Assumes nothing.
+-- Each number is taken apart as the model has it.
 use Rattle.cells.specs.Cells.{part}
 use Rattle.held.specs.Bytes.{encoded}
 use borrow.Author.Needs.{needs}

@@ -1,4 +1,4 @@
--- The selection is read once; each return stands behind the tests of it. Assumes nothing.
+-- The selection is read once; each return stands behind the tests of it.
 use Rattle.cells.proofs.Tests.{tests}
 use Rattle.held.specs.Bytes.{selectionEncoded}
 use borrow.Author.Needs.{needs}

@@ -1,4 +1,4 @@
--- Each return stands behind the tests that the model makes. Assumes nothing.
+-- Each return stands behind the tests that the model makes.
 use Rattle.held.specs.Bytes.{selectionIn}
 use Rattle.cells.proofs.Tests.{tests}
 use borrow.Author.Needs.{needs}

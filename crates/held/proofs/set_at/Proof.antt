@@ -1,4 +1,4 @@
--- The byte is read, and tested as the model tests it. Assumes nothing.
+-- The byte is read, and tested as the model tests it.
 use mathlib.Core.Path.{ap}
 use Rattle.held.specs.Bytes.{isSet}
 use borrow.Author.Needs.{needs}

@@ -1,4 +1,4 @@
--- The invariant: the bytes passed are laid over the bytes as they were. Assumes nothing.
+-- The invariant: the bytes passed are laid over the bytes as they were.
 use Prim.Native.Nat.{_-_, _≤_}
 use mathlib.Core.Path.{_≡_, refl, sym}
 use native.Mathlib.Omega.{arith}

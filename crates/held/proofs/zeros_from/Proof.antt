@@ -1,4 +1,4 @@
--- The invariant: what is asked of the bytes from the first on is asked of those from the one in hand on. Assumes nothing.
+-- The invariant: what is asked of the bytes from the first on is asked of those from the one in hand on.
 use Prim.Native.Nat.{_-_}
 use mathlib.Core.Path.{_≡_, refl, sym, _∙_}
 use lib.ListN.{length, drop}

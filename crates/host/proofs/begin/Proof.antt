@@ -1,4 +1,4 @@
--- `host::begin` meets its contract, by what the address word says. Assumes nothing.
+-- `host::begin` meets its contract, by what the address word says.
 use mathlib.Core.Path.{sym, _∙_}
 use Rattle.host.proofs.Tells.{begins-first, begins-refused}
 use borrow.Author.Needs.{needs}

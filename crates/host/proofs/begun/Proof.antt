@@ -1,4 +1,4 @@
--- `host::begun` meets its contract: the orders are the fresh box's. Assumes nothing.
+-- `host::begun` meets its contract: the orders are the fresh box's.
 use Rattle.host.specs.Host.{beginning}
 use borrow.Author.Needs.{needs}
 use Rattle.host.proofs.begun.Statement.{statement}

@@ -1,4 +1,4 @@
--- `host::channel_fits` meets its contract: it makes the model's tests. Assumes nothing.
+-- `host::channel_fits` meets its contract: it makes the model's tests.
 use Rattle.cells.proofs.Tests.{tests}
 use Rattle.chain.specs.Legal.{channelFits}
 use Rattle.host.proofs.channel_fits.Statement.{statement}

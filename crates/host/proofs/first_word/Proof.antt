@@ -1,4 +1,4 @@
--- `host::first_word` meets its contract, by what the word's tests say. Assumes nothing.
+-- `host::first_word` meets its contract, by what the word's tests say.
 use mathlib.Core.Path.{refl, sym, _∙_}
 use Rattle.host.proofs.Tells.{hears-eq, first-obeyed, first-jump, first-bad}
 use borrow.Author.Needs.{needs}

@@ -1,4 +1,4 @@
--- `host::go` meets its contract: the refusals, no chain, then the run. Assumes nothing.
+-- `host::go` meets its contract: the refusals, no chain, then the run.
 use mathlib.Core.Path.{sym, _∙_}
 use borrow.Author.Tests.{not-true, not-false}
 use Rattle.host.proofs.Laws.{passes-legal}

@@ -1,4 +1,4 @@
--- `host::guard` meets its contract: 2, 3, then 4. Assumes nothing.
+-- `host::guard` meets its contract: 2, 3, then 4.
 use mathlib.Core.Path.{sym, _∙_}
 use borrow.Author.Tests.{not-true, not-false}
 use Rattle.host.proofs.Laws.{fits-whole}

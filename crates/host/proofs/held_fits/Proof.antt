@@ -1,5 +1,4 @@
 -- `host::held_fits` meets its contract: where the head stands, the channel's part, then the orders by the one track that is lent.
--- Assumes nothing.
 use mathlib.Core.Path.{sym, _∙_}
 use borrow.Author.Tests.{not-true, not-false}
 use Rattle.chain.proofs.Fits.{stands-on}

@@ -1,4 +1,4 @@
--- Each arm knows its answer, and gives document 01's number. Assumes nothing.
+-- Each arm knows its answer, and gives document 01's number.
 use Rattle.host.specs.Host.{answerNo}
 use borrow.Author.Needs.{needs}
 use Rattle.host.proofs.number_of.Statement.{statement}

@@ -1,4 +1,4 @@
--- `host::orders_fit` meets its contract: mask, tally, then selection. Assumes nothing.
+-- `host::orders_fit` meets its contract: mask, tally, then selection.
 use mathlib.Core.Path.{_∙_}
 use borrow.Author.Tests.{lt-leb}
 use Rattle.host.proofs.Tells.{bad-mask, bad-tally, by-selection}

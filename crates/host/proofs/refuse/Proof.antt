@@ -1,4 +1,4 @@
--- `host::refuse` meets its contract: two bytes are stored. Assumes nothing.
+-- `host::refuse` meets its contract: two bytes are stored.
 use mathlib.Core.Path.{refl}
 use native.Mathlib.Omega.{arith}
 use lib.ListN.{length-set}

@@ -1,4 +1,4 @@
--- `host::spot_fits` meets its contract: a mark stands for a marker. Assumes nothing.
+-- `host::spot_fits` meets its contract: a mark stands for a marker.
 use Rattle.host.proofs.Tells.{spot-zero, spot-marker}
 use borrow.Author.Needs.{needs}
 use Rattle.host.proofs.spot_fits.Statement.{statement}

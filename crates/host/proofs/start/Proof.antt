@@ -1,4 +1,4 @@
--- `host::start` meets its contract: the refusals, a chain going, then the first word. Assumes nothing.
+-- `host::start` meets its contract: the refusals, a chain going, then the first word.
 use mathlib.Core.Path.{sym, _∙_}
 use Rattle.host.proofs.Laws.{passes-legal}
 use Rattle.host.proofs.Tells.{start-refused, start-going, start-begins}

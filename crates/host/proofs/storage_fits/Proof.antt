@@ -1,4 +1,4 @@
--- `host::storage_fits` meets its contract: it makes the model's tests. Assumes nothing.
+-- `host::storage_fits` meets its contract: it makes the model's tests.
 use Rattle.cells.proofs.Tests.{tests}
 use Rattle.chain.specs.Legal.{storageFits}
 use Rattle.host.proofs.storage_fits.Statement.{statement}

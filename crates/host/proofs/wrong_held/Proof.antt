@@ -1,4 +1,4 @@
--- `host::wrong_held` meets its contract: 2, 3, then 4. Assumes nothing.
+-- `host::wrong_held` meets its contract: 2, 3, then 4.
 use borrow.Author.Tests.{not-true, not-false}
 use Rattle.host.proofs.Tells.{wrong-2, wrong-3, wrong-4}
 use borrow.Author.Needs.{needs}

@@ -1,5 +1,4 @@
 -- `house_check::by_bits` meets its contract. The invariant: the register, with the cells that are left, comes to the whole check.
--- Assumes nothing.
 use mathlib.Core.Path.{_≡_, refl, ap, sym, _∙_}
 use Prim.Native.Nat.{_-_, _≤_}
 use native.Mathlib.Omega.{arith}

@@ -1,4 +1,4 @@
--- `hunt::count_first` meets its contract, case by case. Assumes nothing.
+-- `hunt::count_first` meets its contract, case by case.
 use Rattle.hunt.specs.Hunt.{countFirst}
 use mathlib.Core.Path.{sym, ap}
 use borrow.Author.Needs.{needs}

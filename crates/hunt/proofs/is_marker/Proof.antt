@@ -1,4 +1,4 @@
--- `hunt::is_marker` meets its contract: none below cell 7, none off the track, else by what the cell holds. Assumes nothing.
+-- `hunt::is_marker` meets its contract: none below cell 7, none off the track, else by what the cell holds.
 use mathlib.Core.Path.{sym, _∙_}
 use borrow.Author.Tests.{le-ltb, lt-leb}
 use native.Mathlib.Omega.{arith}

@@ -1,4 +1,4 @@
--- `hunt::next_id` meets its contract: R0 below 7, else by what the hunt finds. Assumes nothing.
+-- `hunt::next_id` meets its contract: R0 below 7, else by what the hunt finds.
 use mathlib.Core.Path.{sym, _∙_}
 use Rattle.hunt.specs.Hunt.{aheadOr}
 use Rattle.hunt.proofs.Laws.{id-low, id-high}

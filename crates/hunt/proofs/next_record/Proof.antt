@@ -1,4 +1,4 @@
--- `hunt::next_record` meets its contract, by what the two hunts find. Assumes nothing.
+-- `hunt::next_record` meets its contract, by what the two hunts find.
 use mathlib.Core.Path.{sym, _∙_}
 use Rattle.hunt.proofs.Laws.{next-ahead, next-past, next-none}
 use borrow.Author.Needs.{needs}

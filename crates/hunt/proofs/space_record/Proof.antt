@@ -1,4 +1,4 @@
--- `hunt::space_record` meets its contract: 7 after home address work, else by the next record. Assumes nothing.
+-- `hunt::space_record` meets its contract: 7 after home address work, else by the next record.
 use mathlib.Core.Path.{sym, _∙_}
 use Rattle.hunt.specs.Hunt.{spacedTo}
 use Rattle.hunt.proofs.Laws.{spaced-home, spaced-to}

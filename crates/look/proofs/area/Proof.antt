@@ -1,4 +1,4 @@
--- A call that fits has two numbers to write, and tells what the part's look found; another writes nothing. Assumes nothing.
+-- A call that fits has two numbers to write, and tells what the part's look found; another writes nothing.
 use Rattle.look.proofs.Laws.{two-numbers, call-told, call-wrong}
 use borrow.Author.Needs.{needs}
 use Rattle.look.proofs.area.Statement.{statement}

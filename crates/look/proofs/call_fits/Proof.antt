@@ -1,4 +1,4 @@
--- It makes the model's tests, in the model's order. Assumes nothing.
+-- It makes the model's tests, in the model's order.
 use Rattle.cells.proofs.Tests.{tests}
 use Rattle.look.specs.Look.{callFits}
 use Rattle.look.proofs.call_fits.Statement.{statement}

@@ -1,4 +1,4 @@
--- Readable or not, by the test. Assumes nothing.
+-- Readable or not, by the test.
 use Rattle.look.proofs.Laws.{is-readable, is-unreadable}
 use borrow.Author.Needs.{needs}
 use Rattle.look.proofs.look_at.Statement.{statement}

@@ -1,4 +1,4 @@
--- Where the data lies goes by the counts that were read; none were, and it is not known. Assumes nothing.
+-- Where the data lies goes by the counts that were read; none were, and it is not known.
 use Rattle.look.proofs.Laws.{data-there, data-not-known}
 use borrow.Author.Needs.{needs}
 use Rattle.look.proofs.look_data.Statement.{statement}

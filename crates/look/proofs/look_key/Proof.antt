@@ -1,4 +1,4 @@
--- Where the key lies goes by the counts that were read; KL of 0 is no key; no counts, and it is not known. Assumes nothing.
+-- Where the key lies goes by the counts that were read; KL of 0 is no key; no counts, and it is not known.
 use Rattle.look.proofs.Laws.{key-absent, key-there, key-not-known}
 use borrow.Author.Needs.{needs}
 use Rattle.look.proofs.look_key.Statement.{statement}

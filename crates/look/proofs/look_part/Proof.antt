@@ -1,4 +1,4 @@
--- Each arm knows its part, and looks there. Assumes nothing.
+-- Each arm knows its part, and looks there.
 use mathlib.Core.Path.{ap, _∙_}
 use Rattle.look.specs.Look.{looksAt, partLook}
 use borrow.Author.Needs.{needs}

@@ -1,4 +1,4 @@
--- Each arm knows its answer, and gives its number. Assumes nothing.
+-- Each arm knows its answer, and gives its number.
 use Rattle.look.specs.Look.{markedNo}
 use borrow.Author.Needs.{needs}
 use Rattle.look.proofs.marked_number.Statement.{statement}

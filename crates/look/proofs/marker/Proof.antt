@@ -1,4 +1,4 @@
--- The number of what was found. Assumes nothing.
+-- The number of what was found.
 use Rattle.look.proofs.Laws.{marker-told}
 use borrow.Author.Needs.{needs}
 use Rattle.look.proofs.marker.Statement.{statement}

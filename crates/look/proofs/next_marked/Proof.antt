@@ -1,4 +1,4 @@
--- The length is tested first; then it is what the hunt on a whole track found. Assumes nothing.
+-- The length is tested first; then it is what the hunt on a whole track found.
 use mathlib.Core.Path.{sym, ap, _∙_}
 use Rattle.look.specs.Look.{markedBy}
 use Rattle.look.proofs.Laws.{no-track, on-track}

@@ -1,4 +1,4 @@
--- Each arm knows its number; the last knows that the number is none of these. Assumes nothing.
+-- Each arm knows its number; the last knows that the number is none of these.
 use Rattle.cells.proofs.Tests.{tests}
 use Rattle.look.specs.Look.{partOf}
 use Rattle.look.proofs.part_of.Statement.{statement}

@@ -1,4 +1,4 @@
--- Of two numbers both are written. Assumes nothing.
+-- Of two numbers both are written.
 use Rattle.look.specs.Look.{lies}
 use Rattle.look.proofs.Laws.{both-set}
 use borrow.Author.Needs.{needs}

@@ -1,4 +1,4 @@
--- Each arm knows what was found: it gives its number, and writes an area alone. Assumes nothing.
+-- Each arm knows what was found: it gives its number, and writes an area alone.
 use mathlib.Core.Path.{refl, sym, ap, _∙_}
 use Rattle.look.specs.declared.{Look.Look}
 use Rattle.look.specs.Look.{lookNo, numbersLeft, lookedOf}

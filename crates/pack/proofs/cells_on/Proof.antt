@@ -1,4 +1,4 @@
--- `pack::cells_on` meets its contract: of tracks there are few. Assumes nothing.
+-- `pack::cells_on` meets its contract: of tracks there are few.
 use native.Mathlib.Omega.{arith}
 use Rattle.pack.proofs.Laws.{few}
 use borrow.Author.Needs.{needs}

@@ -1,4 +1,4 @@
--- `pack::from_one_to` meets its contract: it makes the model's tests. Assumes nothing.
+-- `pack::from_one_to` meets its contract: it makes the model's tests.
 use Rattle.cells.proofs.Tests.{tests}
 use Rattle.pack.proofs.from_one_to.Statement.{statement}
 use Rattle.pack.proofs.from_one_to.Tie as tie

@@ -1,4 +1,4 @@
--- `pack::pack_fits` meets its contract: cylinders, heads, then the count of cells, as the model tests them. Assumes nothing.
+-- `pack::pack_fits` meets its contract: cylinders, heads, then the count of cells, as the model tests them.
 use mathlib.Core.Path.{_∙_}
 use Rattle.pack.proofs.Laws.{up-to, bad-cylinders, bad-heads, by-count}
 use borrow.Author.Needs.{needs}

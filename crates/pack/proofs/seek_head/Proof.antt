@@ -1,4 +1,4 @@
--- `pack::seek_head` meets its contract: it makes the model's test. Assumes nothing.
+-- `pack::seek_head` meets its contract: it makes the model's test.
 use borrow.Author.Needs.{needs}
 use Rattle.cells.proofs.Tests.{tests}
 use Rattle.pack.specs.Pack.{seekHead}

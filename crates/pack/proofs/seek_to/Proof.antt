@@ -1,4 +1,4 @@
--- `pack::seek_to` meets its contract: it makes the model's tests, in their order. Assumes nothing.
+-- `pack::seek_to` meets its contract: it makes the model's tests, in their order.
 use borrow.Author.Needs.{needs}
 use Rattle.cells.proofs.Tests.{tests}
 use Rattle.pack.specs.Pack.{seekTo}

@@ -1,4 +1,4 @@
--- `pack::start_of` meets its contract: a track of the pack has a number below the number of tracks. Assumes nothing.
+-- `pack::start_of` meets its contract: a track of the pack has a number below the number of tracks.
 use Prim.Native.Nat.{_*_, _<_, _≤_}
 use mathlib.Core.Path.{refl}
 use native.Mathlib.Omega.{arith}

@@ -1,4 +1,4 @@
--- `recording::record_byte` meets its contract: one element is stored. Assumes nothing.
+-- `recording::record_byte` meets its contract: one element is stored.
 use Prim.Native.Nat.{ℕ}
 use mathlib.Core.Path.{ap, _∙_}
 use native.Mathlib.Omega.{arith}

@@ -1,4 +1,4 @@
--- `recording::record_check` meets its contract: two cells are stored, and the lent bytes are those before them. Assumes nothing.
+-- `recording::record_check` meets its contract: two cells are stored, and the lent bytes are those before them.
 use Prim.Native.Nat.{ℕ, _+_, _-_}
 use mathlib.Core.Path.{_≡_, ap, _∙_}
 use native.Mathlib.Omega.{arith}

@@ -1,5 +1,5 @@
 -- `recording::wipe` meets its contract. The invariant: the track as it was, wiped from the cell asked for, is the track as it is, wiped
--- from the cell in hand. Assumes nothing.
+-- from the cell in hand.
 use Prim.Native.Nat.{_-_}
 use mathlib.Core.Path.{_≡_, refl, sym, _∙_}
 use lib.ListN.{length, length-set}

@@ -1,4 +1,4 @@
--- `recording::write_area` meets its contract: the bytes, then their check, are the area as it is laid. Assumes nothing.
+-- `recording::write_area` meets its contract: the bytes, then their check, are the area as it is laid.
 use native.Mathlib.Omega.{arith}
 use Rattle.recording.proofs.Laws.{area-laid}
 use borrow.Author.Needs.{needs}

@@ -1,4 +1,4 @@
--- `recording::write_count` meets its contract: flag, bytes sent and their check are the area as it is laid. Assumes nothing.
+-- `recording::write_count` meets its contract: flag, bytes sent and their check are the area as it is laid.
 use native.Mathlib.Omega.{arith}
 use Rattle.recording.proofs.Laws.{count-laid}
 use borrow.Author.Needs.{needs}

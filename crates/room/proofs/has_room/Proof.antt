@@ -1,4 +1,4 @@
--- `room::has_room` meets its contract: it asks the sign of the room left. Assumes nothing.
+-- `room::has_room` meets its contract: it asks the sign of the room left.
 use mathlib.Core.Path.{ap, _∙_}
 use lib.IntN.{pos}
 use lib.Signed.{leZ}

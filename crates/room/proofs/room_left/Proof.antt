@@ -1,5 +1,4 @@
 -- `room::room_left` meets its contract: each number is read as itself before it is taken away, and neither difference leaves 64 bits.
--- Assumes nothing.
 use native.Mathlib.Omega.{arith}
 use Rattle.room.proofs.Laws.{first-fits, both-fit, room-back}
 use borrow.Author.Needs.{needs}

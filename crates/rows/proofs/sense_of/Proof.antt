@@ -1,4 +1,4 @@
--- A row a line, with its two bytes. Assumes nothing.
+-- A row a line, with its two bytes.
 use Rattle.rows.specs.Rows.{senseOf}
 use borrow.Author.Needs.{needs}
 use Rattle.rows.proofs.sense_of.Statement.{statement}

@@ -1,4 +1,4 @@
--- Each arm knows its cause, and gives what the table has there. Assumes nothing.
+-- Each arm knows its cause, and gives what the table has there.
 use Rattle.words.specs.Words.{channelFor}
 use borrow.Author.Needs.{needs}
 use Rattle.words.proofs.channel_for.Statement.{statement}

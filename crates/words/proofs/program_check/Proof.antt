@@ -1,4 +1,4 @@
--- `words::program_check` meets its contract, by the two calls. Assumes nothing.
+-- `words::program_check` meets its contract, by the two calls.
 use Prim.Native.Nat.{ℕ}
 use mathlib.Core.Path.{ap, _∙_}
 use Rattle.words.specs.Words.{statusFor, programCheck}

@@ -1,4 +1,4 @@
--- The parts are made as the model has them, number by number. Assumes nothing.
+-- The parts are made as the model has them, number by number.
 use mathlib.Core.Path.{refl}
 use Rattle.held.specs.Held.{fresh, freshPosition, freshOrders, freshChannel}
 use Rattle.held.proofs.Held.fresh.Statement.{statement}
