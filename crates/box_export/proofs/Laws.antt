@@ -13,7 +13,7 @@ use Rattle.held.specs.declared.{Held.Held, Kept.Kept}
 use Rattle.held.specs.declared.Kept.the-variants.{Holds, Wrong}
 use Rattle.held.specs.Bytes.{heldBytes, encoded, encodes, kept, bit}
 use Rattle.held.proofs.Inverse.{says}
-use Rattle.chain.specs.Step.{world}
+use Rattle.channel.specs.Channel.{world}
 use Rattle.host.specs.declared.{Answer.Answer}
 use Rattle.host.specs.Host.{Hears, hears, answerNo, wrongHeld, starts, goes}
 use Rattle.box_export.specs.Calls.{call, callOf, startKept, startCall, goKept, goCall}

@@ -5,7 +5,7 @@ use lib.ListN.{length}
 use Rattle.pack.specs.declared.{Shape.Shape}
 use Rattle.held.specs.declared.{Kept.Kept}
 use Rattle.held.specs.Bytes.{encoded, kept}
-use Rattle.chain.specs.Step.{world}
+use Rattle.channel.specs.Channel.{world}
 use Rattle.host.specs.Host.{Hears, answerNo, wrongHeld, starts, goes}
 
 pub record Call : Type 0 where

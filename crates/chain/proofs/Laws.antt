@@ -15,12 +15,12 @@ use Rattle.pack.specs.Pack.{startOf, trackAt, withTrack}
 use Rattle.pack.proofs.Laws.{lent-is, lent-back}
 use Rattle.held.specs.declared.{Held.Held}
 use Rattle.held.specs.Held.{rested}
-use Rattle.turn.specs.Turn.{reportOf, lay}
+use Rattle.turn.specs.Turn.{Turn, lay}
 use Rattle.claim_frame.proofs.Here.{command-here}
-use Rattle.channel.specs.Channel.{fetched, heldAfter, storageAfter, Served, served, servedBy, turnOn, serves}
+use Rattle.channel.specs.Channel.{fetched, World, world, wordEnd, turnOn, obeyedOn}
 use Rattle.channel.specs.Inside.{CanObey}
 use Rattle.chain.specs.Legal.{Legal}
-use Rattle.chain.specs.Step.{World, world, under, trackUnder, next, tracksOf, stops, turnOf, settled, obeyed, stepBy, step}
+use Rattle.chain.specs.Step.{under, trackUnder, next, tracksOf, stops, turnOf, settled, obeyed, stepBy, step}
 use Rattle.chain.proofs.Fits.{key-in, selected-on}
 use Rattle.chain.proofs.Legal.{track-whole, turn-left, put-back}
 
@@ -68,22 +68,21 @@ module _ (g : Shape) (h : Held) (w : Word) (s cells : List ℕ) (L : Legal g (wo
       })
 
   -- a command works on that track alone
-  turn-there : turnOn g h w s (trackUnder g W) ≡ turnOf g W w
+  turn-there : turnOn g (world h s (trackUnder g W)) w ≡ turnOf g W w
   unfolding turnOn turnOf trackUnder under tracksOf
   turn-there = sym (command-here g (tracksOf g cells (h .position .cylinder)) (h .position) (h .orders) (w .code) (fetched s w))
 
-  served-there : serves g h w s (trackUnder g W)
-      ≡ served (heldAfter (h .channel) w (reportOf (turnOf g W w))) (storageAfter (h .channel) w (turnOf g W w) s) (lay (turnOf g W w .lays) (trackUnder g W))
-  unfolding serves servedBy
-  served-there = ap (servedBy h w s (trackUnder g W)) turn-there
+  obeyed-there : obeyedOn g (world h s (trackUnder g W)) w ≡ wordEnd W w (turnOf g W w) (lay (turnOf g W w .lays) (trackUnder g W))
+  unfolding obeyedOn
+  obeyed-there = ap (λ (x : Turn). wordEnd W w x (lay (x .lays) (trackUnder g W))) turn-there
 
   pub commanded : (a : ℕ) (r : Held) (s′ t′ : List ℕ) → a ≡ startOf g (h .position .cylinder) (h .position .head) → a + 4096 ≤ length cells → Reaches s w
-      → served r s′ t′ ≡ serves g h w s (take (a + 4096 - a) (drop a cells)) → length t′ ≡ length (take (a + 4096 - a) (drop a cells))
+      → world r s′ t′ ≡ obeyedOn g (world h s (take (a + 4096 - a) (drop a cells))) w → length t′ ≡ length (take (a + 4096 - a) (drop a cells))
       → world r s′ (putMid a (a + 4096 - a) cells t′) ≡ obeyed g W w
   unfolding obeyed settled
   commanded a r s′ t′ e fits reach did long =
-      let same = did ∙ ap (serves g h w s) (lent-there a e) ∙ served-there in
-      world-eq (ap (λ (z : Served). z .held) same) (ap (λ (z : Served). z .storage) same)
+      let same = did ∙ ap (λ (t : List ℕ). obeyedOn g (world h s t) w) (lent-there a e) ∙ obeyed-there in
+      world-eq (ap (λ (z : World). z .held) same) (ap (λ (z : World). z .storage) same)
       (lent-back (λ z. t′) cells t′ a (under g h) (e ∙ under-is g h) fits long refl
-      ∙ ap (λ (z : Served). withTrack cells (under g h) (z .track)) same
+      ∙ ap (λ (z : World). withTrack cells (under g h) (z .cells)) same
       ∙ sym (put-back g W L w (turnOf g W w) (turn-left g W L w) reach))

@@ -21,10 +21,10 @@ use Rattle.hunt.specs.Hunt as Hunt
 use Rattle.held.specs.declared.{Position.Position, Held.Held}
 use Rattle.held.specs.Held.{fresh, freshOrders, freshChannel, rested}
 use Rattle.turn.specs.Turn.{ordersOf, Turn, given, reportOf, lay}
-use Rattle.channel.specs.Channel.{onward, stride, fetched, placed, goesOn, heldAfter, statusAfter, withStatus, storageAfter}
+use Rattle.channel.specs.Channel.{onward, stride, fetched, placed, goesOn, heldAfter, statusAfter, withStatus, storageAfter, World, world}
 use Rattle.table.specs.Table.{controls, searches, reads, writes, find, ruleOf}
 use Rattle.command.proofs.Pieces.{length-laid}
-use Rattle.chain.specs.Step.{World, world, under, trackUnder, next, tracksOf, layOn, stops, jumped, turnOf, settled, obeyed, stepBy, step}
+use Rattle.chain.specs.Step.{under, trackUnder, next, tracksOf, layOn, stops, jumped, turnOf, settled, obeyed, stepBy, step}
 use Rattle.chain.specs.Legal.{positionFits, channelFits, selectionFits, ordersFit, Legal}
 use Rattle.chain.proofs.Fits.{stands-on, key-in, channel-fits}
 use Rattle.chain.proofs.Left.{Left, Chosen, anywhere, here, command-left}

@@ -7,7 +7,8 @@ use native.Mathlib.Omega.{arith}
 use Rattle.cells.specs.Cells.{pick}
 use Rattle.pack.specs.declared.{Shape.Shape}
 use Rattle.cells.proofs.Tests.{pick-all}
-use Rattle.chain.specs.Step.{World, step, run}
+use Rattle.channel.specs.Channel.{World}
+use Rattle.chain.specs.Step.{step, run}
 use Rattle.chain.specs.Legal.{Legal}
 use Rattle.chain.proofs.Legal.{Sizes, step-legal, step-sizes}
 

@@ -14,7 +14,8 @@ use Rattle.pack.specs.Pack.{cylinderOn, headOn, WholePack}
 use Rattle.command.specs.Command.{mostTally}
 use Rattle.table.specs.Table.{ruleOf}
 use Rattle.held.specs.declared.{Selection.Selection, Position.Position, Orders.Orders, Channel.Channel}
-use Rattle.chain.specs.Step.{World, trackUnder}
+use Rattle.channel.specs.Channel.{World}
+use Rattle.chain.specs.Step.{trackUnder}
 
 -- 2: the least storage, for the words at 64 and 72; the most
 abbrev pub leastStorage : ℕ

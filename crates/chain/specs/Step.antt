@@ -12,16 +12,7 @@ use Rattle.held.specs.Held.{rested}
 use Rattle.table.specs.Table.{isWrite, ruleOf}
 use Rattle.turn.specs.Turn.{Tracks, TrackArea, Piece, Turn, reportOf}
 use Rattle.command.specs.Command.{command}
-use Rattle.channel.specs.Channel.{fetched, heldAfter, storageAfter}
-
--- all that a call may change
-pub record World : Type 0 where
-  pub held : Held
-  pub storage : List ℕ
-  pub cells : List ℕ
-
-abbrev pub world : Held → List ℕ → List ℕ → World
-world h s c = record { held = h; storage = s; cells = c }
+use Rattle.channel.specs.Channel.{fetched, World, world, wordEnd}
 
 -- the first cell of the track under the head, and that track
 unfoldable pub under : Shape → Held → ℕ
@@ -65,9 +56,7 @@ turnOf g w d =
 
 -- the channel ends it, and its cells are laid
 unfoldable pub settled : Shape → World → Word → Turn → World
-settled g w d t =
-    world (heldAfter (w .held .channel) d (reportOf t)) (storageAfter (w .held .channel) d t (w .storage))
-    (layOn g (w .held .position .cylinder) (t .lays) (w .cells))
+settled g w d t = wordEnd w d t (layOn g (w .held .position .cylinder) (t .lays) (w .cells))
 
 unfoldable pub obeyed : Shape → World → Word → World
 obeyed g w d = settled g w d (turnOf g w d)

@@ -11,7 +11,8 @@ use Rattle.words.specs.Words.{chains}
 use Rattle.pack.specs.declared.{Shape.Shape}
 use Rattle.held.specs.declared.{Held.Held, Selection.Selection}
 use Rattle.turn.specs.Turn.{after}
-use Rattle.chain.specs.Step.{world, run}
+use Rattle.channel.specs.Channel.{world}
+use Rattle.chain.specs.Step.{run}
 use Rattle.chain.specs.Legal.{Legal}
 
 -- No-op, with flag 40

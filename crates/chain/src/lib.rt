@@ -13,7 +13,8 @@ ghost use mathlib.Core.Bool.{true, false};
 ghost use Prim.Native.Nat.{ℕ, _<_, _≤_};
 ghost use lib.ListN.{length};
 ghost use Rattle.words.specs.Words.{Reaches, tested};
-ghost use Rattle.chain.specs.Step.{world, jumped, stops, obeyed, step, run};
+ghost use Rattle.channel.specs.Channel.{world};
+ghost use Rattle.chain.specs.Step.{jumped, stops, obeyed, step, run};
 ghost use Rattle.chain.specs.Legal.{leastStorage, keys, Legal};
 ghost use Rattle.chain.specs.Stroke.{passes, passing, passed, Passed};
 

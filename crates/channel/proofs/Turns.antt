@@ -23,12 +23,11 @@ use Rattle.command.specs.declared.{Job.Job, Ready.Ready}
 use Rattle.command.specs.Command.{sight, actTurn, readyOf}
 use Rattle.command.proofs.Moves.{LaysBy, Lays, acts-lay, checks-lay, check-lays}
 use Rattle.command.proofs.Comes.{job-acts, row-ends}
-use Rattle.unit.specs.Unit.{Accepts}
+use Rattle.unit.specs.Unit.{jobTurn, Accepts}
 use Rattle.ending.specs.Ending.{checkReport}
 use Rattle.ending.proofs.Laws.{failed}
-use Rattle.channel.specs.Channel.{fetched, placed, heldAfter, withStatus, storageAfter, served, servedBy, turnOn, serves}
-use Rattle.channel.specs.Inside as Inside
-use Rattle.channel.specs.Inside.{jobTurn, Turned}
+use Rattle.channel.specs.Channel.{fetched, placed, heldAfter, withStatus, storageAfter, world, turnOn, obeyedOn}
+use Rattle.channel.specs.Inside.{wordTurn, Turned}
 
 -- ---- the part of storage that a word names
 
@@ -71,25 +70,23 @@ module _ (j : Job) (w : Word) (s t : List ℕ) where
   abbrev sent : List ℕ
   sent = take (w .address + w .count - w .address) (drop (w .address) s)
 
-  abbrev Of : Shape → List ℕ → Turn
-  Of g v = actTurn g (j .rule .act) (sight (alone t) j v)
+  turn-is : (g : Shape) → jobTurn g t j sent ≡ wordTurn g j w s t
+  unfolding wordTurn fetched
+  turn-is g = ap (jobTurn g t j) (sent-is s (w .address) (w .count))
 
-  turn-is : (g : Shape) → Of g sent ≡ jobTurn g j w s t
-  unfolding jobTurn fetched
-  turn-is g = ap (Of g) (sent-is s (w .address) (w .count))
-
-  pub asked : (g : Shape) (d : Report) → d ≡ reportOf (actTurn g (j .rule .act) (sight (alone t) j sent)) → d ≡ reportOf (jobTurn g j w s t)
+  pub asked : (g : Shape) (d : Report) → d ≡ reportOf (jobTurn g t j sent) → d ≡ reportOf (wordTurn g j w s t)
   asked g d e = e ∙ ap reportOf (turn-is g)
 
-  pub gave : (u : List ℕ) → Reaches s w → ((g : Shape) (v : List ℕ) → u ≡ filled sent 0 (given (actTurn g (j .rule .act) (sight (alone t) j v) .moves)))
-      → (g : Shape) → putMid (w .address) (w .address + w .count - w .address) s u ≡ placed s w (given (jobTurn g j w s t .moves))
-  unfolding placed jobTurn
+  pub gave : (u : List ℕ) → Reaches s w → ((g : Shape) (v : List ℕ) → u ≡ filled sent 0 (given (jobTurn g t j v .moves)))
+      → (g : Shape) → putMid (w .address) (w .address + w .count - w .address) s u ≡ placed s w (given (wordTurn g j w s t .moves))
+  unfolding placed wordTurn
   gave u r e g = came-back s u _ _ (w .address) (w .count) (r .area) (e g (fetched s w)) refl
 
-  pub accepts : Inside.Takes j w s t → Accepts j sent t
-  accepts h = record { shape = h .shape; ends = ap (λ (z : Turn). isCheck (z .ending)) (turn-is (h .shape)) ∙ h .ends }
+  pub accepts : Accepts j (fetched s w) t → Accepts j sent t
+  unfolding fetched
+  accepts h = subst (λ (v : List ℕ). Accepts j v t) (sym (sent-is s (w .address) (w .count))) h
 
-  pub laid-there : (u : List ℕ) → ((g : Shape) → u ≡ lay (actTurn g (j .rule .act) (sight (alone t) j sent) .lays) t) → (g : Shape) → u ≡ lay (jobTurn g j w s t .lays) t
+  pub laid-there : (u : List ℕ) → ((g : Shape) → u ≡ lay (jobTurn g t j sent .lays) t) → (g : Shape) → u ≡ lay (wordTurn g j w s t .lays) t
   laid-there u e g = e g ∙ ap (λ (z : Turn). lay (z .lays) t) (turn-is g)
 
 -- ---- one transfer is all of a turn
@@ -135,13 +132,13 @@ unfolding reportOf lay
 check-laid x d t b h told e f =
     sym (ap (λ (l : List Piece). lay l t) (check-lays x h (sym (ap (λ (z : Report). isCheck (z .ending)) told) ∙ sym e ∙ f)))
 
-pub job-lay : (g : Shape) (j : Job) (w : Word) (s t : List ℕ) → Lays (jobTurn g j w s t)
-unfolding jobTurn
+pub job-lay : (g : Shape) (j : Job) (w : Word) (s t : List ℕ) → Lays (wordTurn g j w s t)
+unfolding wordTurn
 job-lay g j w s t = acts-lay (sight (alone t) j (fetched s w)) g (j .rule .act)
 
-pub not-check : (g : Shape) (j : Job) (w : Word) (s t : List ℕ) (d : Report) (b : Bool) → d ≡ reportOf (jobTurn g j w s t) → b ≡ isCheck (d .ending) → b ≡ false
-    → Inside.Takes j w s t
-unfolding reportOf
+pub not-check : (g : Shape) (j : Job) (w : Word) (s t : List ℕ) (d : Report) (b : Bool) → d ≡ reportOf (wordTurn g j w s t) → b ≡ isCheck (d .ending) → b ≡ false
+    → Accepts j (fetched s w) t
+unfolding reportOf wordTurn
 not-check g j w s t d b told e f = record { shape = g; ends = sym (ap (λ (z : Report). isCheck (z .ending)) told) ∙ sym e ∙ f }
 
 -- ---- a command
@@ -155,21 +152,21 @@ fails-turned st o l row w s t d e =
     record { told = told; storage = placed-none (checkTurn st o l row) d (checks-lay st o l row) told w s t refl; track = refl }
 
 module _ (g : Shape) (h : Held) (w : Word) (s t : List ℕ) (x : Ready) (ready : x ≡ readyOf (alone t) (h .position) (h .orders) (w .code)) where
-  pub row-turned : (row : Row) (d : Report) → x ≡ Ready.Refuses row → d ≡ checkReport (h .position) (h .orders) row → Turned (turnOn g h w s t) w s t s t d
+  pub row-turned : (row : Row) (d : Report) → x ≡ Ready.Refuses row → d ≡ checkReport (h .position) (h .orders) row → Turned (turnOn g (world h s t) w) w s t s t d
   unfolding turnOn
   row-turned row d q e =
       subst (λ (z : Turn). Turned z w s t s t d) (row-ends (alone t) (h .position) (h .orders) (w .code) row (sym q ∙ ready) g (fetched s w))
       (fails-turned (h .position) (h .orders) _ row w s t d e)
 
-  pub job-turned : (j : Job) (s′ t′ : List ℕ) (d : Report) → x ≡ Ready.Acts j → Turned (jobTurn g j w s t) w s t s′ t′ d
-      → Turned (turnOn g h w s t) w s t s′ t′ d
-  unfolding turnOn jobTurn
+  pub job-turned : (j : Job) (s′ t′ : List ℕ) (d : Report) → x ≡ Ready.Acts j → Turned (wordTurn g j w s t) w s t s′ t′ d
+      → Turned (turnOn g (world h s t) w) w s t s′ t′ d
+  unfolding turnOn wordTurn
   job-turned j s′ t′ d q e =
       subst (λ (z : Turn). Turned z w s t s′ t′ d) (job-acts (alone t) (h .position) (h .orders) (w .code) j (sym q ∙ ready) g (fetched s w)) e
 
-pub obeys : (g : Shape) (h r : Held) (w : Word) (s t s′ t′ s″ : List ℕ) (d : Report) → Turned (turnOn g h w s t) w s t s′ t′ d
-    → r ≡ heldAfter (h .channel) w d → s″ ≡ withStatus (h .channel) w d s′ → served r s″ t′ ≡ serves g h w s t
-unfolding serves servedBy storageAfter
+pub obeys : (g : Shape) (h r : Held) (w : Word) (s t s′ t′ s″ : List ℕ) (d : Report) → Turned (turnOn g (world h s t) w) w s t s′ t′ d
+    → r ≡ heldAfter (h .channel) w d → s″ ≡ withStatus (h .channel) w d s′ → world r s″ t′ ≡ obeyedOn g (world h s t) w
+unfolding obeyedOn storageAfter
 obeys g h r w s t s′ t′ s″ d T p q =
-    λ i. served ((p ∙ ap (heldAfter (h .channel) w) (T .told)) i)
+    λ i. world ((p ∙ ap (heldAfter (h .channel) w) (T .told)) i)
     ((q ∙ ap₂ (withStatus (h .channel) w) (T .told) (T .storage)) i) (T .track i)

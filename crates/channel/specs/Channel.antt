@@ -92,22 +92,23 @@ withStatus c w d s = pick (goesOn w d) s (stored s (statusAfter c w d))
 unfoldable pub storageAfter : Channel → Word → Turn → List ℕ → List ℕ
 storageAfter c w t s = withStatus c w (reportOf t) (placed s w (given (t .moves)))
 
--- ---- a word to obey, on the track under the head: what is held then, and what is left of storage and of the track
+-- ---- all that a word may change: what is held, storage, and cells, of a pack or of one track
 
-pub record Served : Type 0 where
+pub record World : Type 0 where
   pub held : Held
   pub storage : List ℕ
-  pub track : List ℕ
+  pub cells : List ℕ
 
-abbrev pub served : Held → List ℕ → List ℕ → Served
-served h s t = record { held = h; storage = s; track = t }
+abbrev pub world : Held → List ℕ → List ℕ → World
+world h s c = record { held = h; storage = s; cells = c }
 
-unfoldable pub servedBy : Held → Word → List ℕ → List ℕ → Turn → Served
-servedBy h w s t x = served (heldAfter (h .channel) w (reportOf x)) (storageAfter (h .channel) w x s) (lay (x .lays) t)
+-- a word to obey is at its end: its command had this turn, and these are the cells then
+abbrev pub wordEnd : World → Word → Turn → List ℕ → World
+wordEnd w d x c = world (heldAfter (w .held .channel) d (reportOf x)) (storageAfter (w .held .channel) d x (w .storage)) c
 
--- the turn of its command, with the bytes at its address sent
-unfoldable pub turnOn : Shape → Held → Word → List ℕ → List ℕ → Turn
-turnOn g h w s t = command g (alone t) (h .position) (h .orders) (w .code) (fetched s w)
+-- on the track under the head alone: the turn of its command, with the bytes at its address sent
+unfoldable pub turnOn : Shape → World → Word → Turn
+turnOn g w d = command g (alone (w .cells)) (w .held .position) (w .held .orders) (d .code) (fetched (w .storage) d)
 
-unfoldable pub serves : Shape → Held → Word → List ℕ → List ℕ → Served
-serves g h w s t = servedBy h w s t (turnOn g h w s t)
+unfoldable pub obeyedOn : Shape → World → Word → World
+obeyedOn g w d = wordEnd w d (turnOn g w d) (lay (turnOn g w d .lays) (w .cells))

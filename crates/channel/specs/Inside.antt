@@ -1,7 +1,6 @@
 -- What the functions inside the crate promise one another. No rule of document 01's.
 use Prim.Native.Nat.{ℕ, _+_, _<_, _≤_}
 use mathlib.Core.Path.{_≡_}
-use mathlib.Core.Bool.{false}
 use mathlib.Core.List.{List}
 use lib.ListN.{length}
 use Rattle.cells.specs.Cells.{marks}
@@ -10,24 +9,20 @@ use Rattle.words.specs.Words.{wordBytes, Reaches, statusAt}
 use Rattle.hunt.specs.Hunt.{WholeTrack}
 use Rattle.pack.specs.declared.{Shape.Shape}
 use Rattle.held.specs.declared.{Held.Held}
-use Rattle.command.specs.Command.{SelectedOn, sight, actTurn}
+use Rattle.command.specs.Command.{SelectedOn}
 use Rattle.turn.specs.declared.{Report.Report}
-use Rattle.turn.specs.Turn.{alone, given, Turn, reportOf, lay, isCheck}
+use Rattle.turn.specs.Turn.{given, Turn, reportOf, lay}
 use Rattle.command.specs.declared.{Job.Job}
+use Rattle.unit.specs.Unit.{jobTurn}
 use Rattle.channel.specs.Channel.{fetched, placed}
 
 -- the turn of a job, with the bytes at a word's address sent
-unfoldable pub jobTurn : Shape → Job → Word → List ℕ → List ℕ → Turn
-jobTurn g j w s t = actTurn g (j .rule .act) (sight (alone t) j (fetched s w))
-
--- it does not end in Unit Check
-pub record Takes (j : Job) (w : Word) (s t : List ℕ) : Type 0 where
-  pub shape : Shape
-  pub ends : isCheck (jobTurn shape j w s t .ending) ≡ false
+unfoldable pub wordTurn : Shape → Job → Word → List ℕ → List ℕ → Turn
+wordTurn g j w s t = jobTurn g t j (fetched s w)
 
 -- this was told of it
 pub record Asked (g : Shape) (j : Job) (w : Word) (s t : List ℕ) (d : Report) : Type 0 where
-  pub told : d ≡ reportOf (jobTurn g j w s t)
+  pub told : d ≡ reportOf (wordTurn g j w s t)
 
 -- a turn was told, its bytes were placed, and its cells were laid
 pub record Turned (x : Turn) (w : Word) (s t s′ t′ : List ℕ) (d : Report) : Type 0 where

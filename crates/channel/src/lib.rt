@@ -17,8 +17,9 @@ ghost use Rattle.turn.specs.Turn.{alone, given, wants, reportOf, lay, isCheck};
 ghost use Rattle.words.specs.Words.{Reaches};
 ghost use Rattle.hunt.specs.Hunt.{WholeTrack};
 ghost use Rattle.command.specs.Command.{SelectedOn, Sighted};
-ghost use Rattle.channel.specs.Channel.{unitStatus, endsWell, stride, onward, placed, bytesMoved, movesAny, lengthCounts, wrongLength, goesOn, heldAfter, statusAfter, withStatus, turnOn, served, serves};
-ghost use Rattle.channel.specs.Inside.{jobTurn, Takes, Asked, Turned, CanObey};
+ghost use Rattle.unit.specs.Unit.{Accepts};
+ghost use Rattle.channel.specs.Channel.{fetched, unitStatus, endsWell, stride, onward, placed, bytesMoved, movesAny, lengthCounts, wrongLength, goesOn, heldAfter, statusAfter, withStatus, world, turnOn, obeyedOn};
+ghost use Rattle.channel.specs.Inside.{wordTurn, Asked, Turned, CanObey};
 
 // Flags of a command word: go on to the next, and incorrect length is none.
 const CHAINS: u8 = 0x40;
@@ -183,7 +184,7 @@ fn settle(c: Channel, w: Word, d: Report, storage: &mut [u8]) -> Held
 // What a job tells of the bytes at a word's address.
 fn ask(g: Shape, j: Job, w: Word, storage: &[u8], track: &[u16]) -> Report
     requires { ⌜ Reaches (now storage) w × WholeTrack (now track) × Sighted (alone (now track)) j ⌝ }
-    ensures { λ r. ⌜ r ≡ reportOf (jobTurn g j w (now (storage .entry)) (now (track .entry))) ⌝ }
+    ensures { λ r. ⌜ r ≡ reportOf (wordTurn g j w (now (storage .entry)) (now (track .entry))) ⌝ }
 {
     let at = w.address as usize;
     let end = at + w.count as usize;
@@ -193,7 +194,8 @@ fn ask(g: Shape, j: Job, w: Word, storage: &[u8], track: &[u16]) -> Report
 // The bytes that a job gives, placed at a word's address.
 fn place(j: Job, w: Word, storage: &mut [u8], track: &[u16])
     requires { ⌜ Reaches (now storage) w × Sighted (alone (now track)) j ⌝ }
-    ensures { λ _. ⌜ ((g : Shape) → now (storage .exit) ≡ placed (now (storage .entry)) w (given (jobTurn g j w (now (storage .entry)) (now (track .entry)) .moves))) ⌝ }
+    ensures { λ _. ⌜ ((g : Shape) → now (storage .exit) ≡ placed (now (storage .entry)) w
+        (given (wordTurn g j w (now (storage .entry)) (now (track .entry)) .moves))) ⌝ }
 {
     let at = w.address as usize;
     let end = at + w.count as usize;
@@ -202,8 +204,8 @@ fn place(j: Job, w: Word, storage: &mut [u8], track: &[u16])
 
 // The cells that a job lays, of the bytes at a word's address.
 fn lay(j: Job, w: Word, storage: &[u8], track: &mut [u16])
-    requires { ⌜ Reaches (now storage) w × WholeTrack (now track) × Sighted (alone (now track)) j × Takes j w (now storage) (now track) ⌝ }
-    ensures { λ _. ⌜ ((g : Shape) → now (track .exit) ≡ lay (jobTurn g j w (now (storage .entry)) (now (track .entry)) .lays) (now (track .entry))) ⌝ }
+    requires { ⌜ Reaches (now storage) w × WholeTrack (now track) × Sighted (alone (now track)) j × Accepts j (fetched (now storage) w) (now track) ⌝ }
+    ensures { λ _. ⌜ ((g : Shape) → now (track .exit) ≡ lay (wordTurn g j w (now (storage .entry)) (now (track .entry)) .lays) (now (track .entry))) ⌝ }
 {
     let at = w.address as usize;
     let end = at + w.count as usize;
@@ -213,7 +215,7 @@ fn lay(j: Job, w: Word, storage: &[u8], track: &mut [u16])
 // What is laid, unless the command ends in Unit Check.
 fn take(g: Shape, j: Job, w: Word, d: Report, storage: &[u8], track: &mut [u16])
     requires { ⌜ Reaches (now storage) w × WholeTrack (now track) × Sighted (alone (now track)) j × Asked g j w (now storage) (now track) d ⌝ }
-    ensures { λ _. ⌜ now (track .exit) ≡ lay (jobTurn g j w (now (storage .entry)) (now (track .entry)) .lays) (now (track .entry)) ⌝ }
+    ensures { λ _. ⌜ now (track .exit) ≡ lay (wordTurn g j w (now (storage .entry)) (now (track .entry)) .lays) (now (track .entry)) ⌝ }
 {
     let e = d.ending;
     if is_check(e) {
@@ -225,7 +227,8 @@ fn take(g: Shape, j: Job, w: Word, d: Report, storage: &[u8], track: &mut [u16])
 // A job that was asked gives its bytes, or lays what it took.
 fn move_bytes(g: Shape, j: Job, w: Word, d: Report, storage: &mut [u8], track: &mut [u16])
     requires { ⌜ Reaches (now storage) w × WholeTrack (now track) × Sighted (alone (now track)) j × Asked g j w (now storage) (now track) d ⌝ }
-    ensures { λ _. ⌜ Turned (jobTurn g j w (now (storage .entry)) (now (track .entry))) w (now (storage .entry)) (now (track .entry)) (now (storage .exit)) (now (track .exit)) d ⌝ }
+    ensures { λ _. ⌜ Turned (wordTurn g j w (now (storage .entry)) (now (track .entry))) w (now (storage .entry)) (now (track .entry))
+        (now (storage .exit)) (now (track .exit)) d ⌝ }
 {
     let m = d.transfer;
     match m {
@@ -237,7 +240,8 @@ fn move_bytes(g: Shape, j: Job, w: Word, d: Report, storage: &mut [u8], track: &
 
 fn act(g: Shape, j: Job, w: Word, storage: &mut [u8], track: &mut [u16]) -> Report
     requires { ⌜ Reaches (now storage) w × WholeTrack (now track) × Sighted (alone (now track)) j ⌝ }
-    ensures { λ r. ⌜ Turned (jobTurn g j w (now (storage .entry)) (now (track .entry))) w (now (storage .entry)) (now (track .entry)) (now (storage .exit)) (now (track .exit)) r ⌝ }
+    ensures { λ r. ⌜ Turned (wordTurn g j w (now (storage .entry)) (now (track .entry))) w (now (storage .entry)) (now (track .entry))
+        (now (storage .exit)) (now (track .exit)) r ⌝ }
 {
     let d = ask(g, j, w, storage, track);
     move_bytes(g, j, w, d, storage, track);
@@ -247,7 +251,8 @@ fn act(g: Shape, j: Job, w: Word, storage: &mut [u8], track: &mut [u16]) -> Repo
 // A command has its turn on a track.
 fn turn(g: Shape, h: Held, w: Word, storage: &mut [u8], track: &mut [u16]) -> Report
     requires { ⌜ Reaches (now storage) w × WholeTrack (now track) × SelectedOn (marks (now track)) (h .orders .selection) ⌝ }
-    ensures { λ r. ⌜ Turned (turnOn g h w (now (storage .entry)) (now (track .entry))) w (now (storage .entry)) (now (track .entry)) (now (storage .exit)) (now (track .exit)) r ⌝ }
+    ensures { λ r. ⌜ Turned (turnOn g (world h (now (storage .entry)) (now (track .entry))) w) w (now (storage .entry)) (now (track .entry))
+        (now (storage .exit)) (now (track .exit)) r ⌝ }
 {
     let position = h.position;
     let orders = h.orders;
@@ -260,7 +265,7 @@ fn turn(g: Shape, h: Held, w: Word, storage: &mut [u8], track: &mut [u16]) -> Re
 // A word to obey: its command has its turn on the track under the head, and the channel ends it.
 pub fn obey(g: Shape, h: Held, w: Word, storage: &mut [u8], track: &mut [u16]) -> Held
     requires { ⌜ CanObey h w (now storage) (now track) ⌝ }
-    ensures { λ r. ⌜ served r (now (storage .exit)) (now (track .exit)) ≡ serves g h w (now (storage .entry)) (now (track .entry)) ⌝ }
+    ensures { λ r. ⌜ world r (now (storage .exit)) (now (track .exit)) ≡ obeyedOn g (world h (now (storage .entry)) (now (track .entry))) w ⌝ }
 {
     let d = turn(g, h, w, storage, track);
     let channel = h.channel;

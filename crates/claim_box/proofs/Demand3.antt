@@ -18,7 +18,8 @@ use Rattle.pack.specs.declared.{Shape.Shape}
 use Rattle.pack.specs.Pack.{trackNo, startOf}
 use Rattle.held.specs.declared.{Held.Held}
 use Rattle.held.specs.Held.{fresh, freshChannel, rested}
-use Rattle.chain.specs.Step.{World, world, under, trackUnder, step, run}
+use Rattle.channel.specs.Channel.{World, world}
+use Rattle.chain.specs.Step.{under, trackUnder, step, run}
 use Rattle.chain.specs.Legal.{heldFits, Legal}
 use Rattle.chain.proofs.Legal.{step-legal}
 use Rattle.chain.proofs.Runs.{run-on, run-idle, run-split, run-legal}

@@ -19,7 +19,8 @@ use Rattle.pack.specs.Pack.{trackNo, trackAt}
 use Rattle.held.specs.declared.{Held.Held}
 use Rattle.held.specs.Held.{rested}
 use Rattle.turn.specs.Turn.{withSense, TrackArea}
-use Rattle.chain.specs.Step.{World, world, next, step, run, wordReads, testedWrites}
+use Rattle.channel.specs.Channel.{World, world}
+use Rattle.chain.specs.Step.{next, step, run, wordReads, testedWrites}
 use Rattle.sound.specs.Sound.{Sound}
 use Rattle.claim_damage.specs.Damage.{Own, Damaged, any, sameArea}
 use Rattle.host.specs.declared.{Answer.Answer, Guarded.Guarded}

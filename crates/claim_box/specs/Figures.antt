@@ -21,7 +21,7 @@ use Rattle.compare.specs.Compare.{compared}
 use Rattle.held.specs.declared.{Position.Position}
 use Rattle.held.specs.Held.{fresh, rested}
 use Rattle.turn.specs.Turn.{positionAt}
-use Rattle.chain.specs.Step.{world}
+use Rattle.channel.specs.Channel.{world}
 use Rattle.host.specs.declared.{Answer.Answer}
 use Rattle.host.specs.Host.{Hears, beginning, starts, goes}
 use Rattle.sound.specs.Sound.{Sound}

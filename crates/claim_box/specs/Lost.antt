@@ -11,7 +11,7 @@ use Rattle.areas.specs.Areas.{r0First, endBy, needed}
 use Rattle.room.specs.Room.{roomLeft}
 use Rattle.rows.specs.Rows.{sense}
 use Rattle.held.specs.Held.{fresh}
-use Rattle.chain.specs.Step.{world}
+use Rattle.channel.specs.Channel.{world}
 use Rattle.host.specs.declared.{Answer.Answer}
 use Rattle.host.specs.Host.{Hears, beginning, goes}
 use Rattle.sound.specs.Tracks.{trackOf, homeWith, countWith}

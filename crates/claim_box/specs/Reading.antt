@@ -14,7 +14,8 @@ use Rattle.areas.specs.declared.{Area.Area, Part.Part}
 use Rattle.areas.specs.Areas.{area, homeArea, r0First, countArea}
 use Rattle.held.specs.Held.{fresh}
 use Rattle.turn.specs.Turn.{TrackArea}
-use Rattle.chain.specs.Step.{World, world, step, wordReads}
+use Rattle.channel.specs.Channel.{World, world}
+use Rattle.chain.specs.Step.{step, wordReads}
 use Rattle.host.specs.declared.{Answer.Answer}
 use Rattle.host.specs.Host.{Hears, starts, goes}
 use Rattle.sound.specs.Sound.{Sound}

@@ -12,7 +12,8 @@ use Rattle.words.specs.declared.Begun.the-variants.{Begins, Refused}
 use Rattle.words.specs.declared.Tested.the-variants.{Obey, Jump, Bad}
 use Rattle.words.specs.Words.{begunBy}
 use Rattle.pack.specs.declared.{Shape.Shape}
-use Rattle.chain.specs.Step.{World, run}
+use Rattle.channel.specs.Channel.{World}
+use Rattle.chain.specs.Step.{run}
 use Rattle.chain.specs.Legal.{Legal}
 use Rattle.host.specs.declared.Answer.the-variants.{BadStart, NoChain, ChainGoing}
 use Rattle.host.specs.declared.{Guarded.Guarded}

@@ -33,8 +33,8 @@ use Rattle.table.specs.Table.{ruleOf}
 use Rattle.turn.specs.Turn.{Tracks, Piece, given, reportOf, lay, checkTurn}
 use Rattle.command.specs.Command.{licensed, areasOf, gets, command}
 use Rattle.claim_frame.specs.Frame.{givesBytes}
-use Rattle.channel.specs.Channel.{placed, bytesMoved, goesOn}
-use Rattle.chain.specs.Step.{World, under, trackUnder, next, turnOf, step, run, testedWrites}
+use Rattle.channel.specs.Channel.{placed, bytesMoved, goesOn, World}
+use Rattle.chain.specs.Step.{under, trackUnder, next, turnOf, step, run, testedWrites}
 use Rattle.chain.specs.Legal.{Legal}
 use Rattle.host.specs.declared.{Answer.Answer, Guarded.Guarded}
 use Rattle.host.specs.Host.{guardOf, starts, goes}

@@ -10,7 +10,8 @@ use Rattle.cells.specs.Cells.{pick}
 use Rattle.words.specs.declared.{Word.Word}
 use Rattle.pack.specs.declared.{Shape.Shape}
 use Rattle.held.specs.Held.{fresh}
-use Rattle.chain.specs.Step.{World, world, step, run}
+use Rattle.channel.specs.Channel.{World, world}
+use Rattle.chain.specs.Step.{step, run}
 use Rattle.chain.proofs.Runs.{run-idle}
 use Rattle.host.specs.declared.Answer.the-variants.{NoChain}
 use Rattle.host.specs.Host.{Hears, hears, guardOf, guards, beginning, ran, goes}

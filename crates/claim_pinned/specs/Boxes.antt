@@ -11,12 +11,12 @@ use Rattle.words.specs.Words.{stored, statusFor}
 use Rattle.pack.specs.declared.{Shape.Shape}
 use Rattle.held.specs.declared.{Channel.Channel}
 use Rattle.held.specs.Held.{rested}
-use Rattle.channel.specs.Channel.{unitStatus, placed, wrongLength, goesOn}
+use Rattle.channel.specs.Channel.{unitStatus, placed, wrongLength, goesOn, World, world}
 use Rattle.table.specs.declared.{Act.Act}
 use Rattle.table.specs.Table.{ruleOf}
 use Rattle.turn.specs.declared.{Report.Report}
 use Rattle.turn.specs.Turn.{given, Turn, reportOf, checkTurn}
-use Rattle.chain.specs.Step.{World, world, next, turnOf, settled, obeyed, stepBy, step, run}
+use Rattle.chain.specs.Step.{next, turnOf, settled, obeyed, stepBy, step, run}
 use Rattle.host.specs.declared.{Answer.Answer}
 use Rattle.host.specs.Host.{Hears, hears, guardOf, guards, starts, ran, goes}
 

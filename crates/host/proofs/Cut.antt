@@ -7,7 +7,8 @@ use native.Mathlib.Omega.{arith}
 use Rattle.cells.specs.Cells.{pick}
 use Rattle.pack.specs.declared.{Shape.Shape}
 use Rattle.pack.specs.Pack.{packFits}
-use Rattle.chain.specs.Step.{World, run}
+use Rattle.channel.specs.Channel.{World}
+use Rattle.chain.specs.Step.{run}
 use Rattle.chain.specs.Legal.{storageFits}
 use Rattle.chain.proofs.Runs.{run-split, run-idle, run-legal, run-sizes}
 use Rattle.host.specs.declared.Answer.the-variants.{ChainEnded, AllowanceUsed, NoChain}

@@ -11,7 +11,7 @@ use Rattle.cells.specs.Cells.{pick}
 use Rattle.cells.proofs.Tests.{first-of, second-of, both-of}
 use Rattle.pack.specs.declared.{Shape.Shape}
 use Rattle.pack.specs.Pack.{mostCylinders, mostHeads, from1To, packFits, WholePack}
-use Rattle.chain.specs.Step.{World}
+use Rattle.channel.specs.Channel.{World}
 use Rattle.chain.specs.Legal.{storageFits, positionFits, channelFits, heldFits, Legal}
 use Rattle.host.specs.declared.{Answer.Answer}
 use Rattle.host.specs.declared.Answer.the-variants.{BadStorage, BadPack, BadHeld}

@@ -24,7 +24,8 @@ use Rattle.table.specs.declared.{Rule.Rule}
 use Rattle.table.specs.Table.{ruleOf}
 use Rattle.held.specs.declared.{Selection.Selection, Orders.Orders, Held.Held}
 use Rattle.held.specs.declared.Selection.the-variants.{Nothing, On}
-use Rattle.chain.specs.Step.{World, world, under, trackUnder, run}
+use Rattle.channel.specs.Channel.{World, world}
+use Rattle.chain.specs.Step.{under, trackUnder, run}
 use Rattle.chain.specs.Legal.{storageFits, positionFits, channelFits, selectionFits, ordersFit, heldFits}
 use Rattle.hunt.specs.Hunt.{spotFits}
 use Rattle.host.specs.declared.{Answer.Answer, Guarded.Guarded}

@@ -10,7 +10,8 @@ use Rattle.pack.specs.declared.{Shape.Shape}
 use Rattle.pack.specs.Pack.{packFits}
 use Rattle.held.specs.declared.{Held.Held}
 use Rattle.held.specs.Held.{fresh}
-use Rattle.chain.specs.Step.{World, world, run}
+use Rattle.channel.specs.Channel.{World, world}
+use Rattle.chain.specs.Step.{run}
 use Rattle.chain.specs.Legal.{storageFits, heldFits}
 -- Answer: the table's, each below with its number. Guarded, what the refusals of any call come to: Passes, or Answers answer.
 use Rattle.host.specs.declared.{Answer.Answer, Guarded.Guarded}

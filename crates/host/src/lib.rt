@@ -16,7 +16,7 @@ ghost use mathlib.Core.Bool.{false};
 ghost use Rattle.cells.specs.Cells.{pick, marks};
 ghost use Rattle.words.specs.Words.{begunBy, tested};
 ghost use Rattle.pack.specs.Pack.{WholePack, On};
-ghost use Rattle.chain.specs.Step.{world};
+ghost use Rattle.channel.specs.Channel.{world};
 ghost use Rattle.hunt.specs.Hunt.{spotFits};
 ghost use Rattle.chain.specs.Legal.{storageFits, positionFits, channelFits, selectionFits, ordersFit, heldFits};
 ghost use Rattle.host.specs.Host.{hears, guardOf, wrongHeld, refusesStart, beginning, firstWord, begins, starts, goes, answerNo};

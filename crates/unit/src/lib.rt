@@ -16,10 +16,10 @@ ghost use mathlib.Core.List.{List};
 ghost use Prim.Native.Nat.{ℕ};
 ghost use Rattle.cells.specs.Cells.{marks};
 ghost use Rattle.hunt.specs.Hunt.{WholeTrack};
-ghost use Rattle.command.specs.Command.{SelectedOn, Sighted, sight, controlTurn, actTurn, readyBy, readyOf};
+ghost use Rattle.command.specs.Command.{SelectedOn, Sighted, sight, controlTurn, readyBy, readyOf};
 ghost use Rattle.turn.specs.Turn.{Tracks, alone, filled, given, reportOf, lay};
 ghost use Rattle.command.specs.declared.Plan.the-variants.{Works};
-ghost use Rattle.unit.specs.Unit.{Accepts};
+ghost use Rattle.unit.specs.Unit.{jobTurn, Accepts};
 
 // All that a task names is read.
 fn read(code: u8, r: Rule, s: Position, o: Orders, k: Task, track: &[u16]) -> Ready
@@ -54,7 +54,7 @@ pub fn ready(code: u8, track: &[u16], s: Position, o: Orders) -> Ready
 // What a job tells the channel.
 pub fn ask(g: Shape, j: Job, sent: &[u8], track: &[u16]) -> Report
     requires { ⌜ WholeTrack (now track) × Sighted (alone (now track)) j ⌝ }
-    ensures { λ r. ⌜ r ≡ reportOf (actTurn g (j .rule .act) (sight (alone (now (track .entry))) j (now (sent .entry)))) ⌝ }
+    ensures { λ r. ⌜ r ≡ reportOf (jobTurn g (now (track .entry)) j (now (sent .entry))) ⌝ }
 {
     let rule = j.rule;
     let act = rule.act;
@@ -79,7 +79,7 @@ fn give_control(k: Control, j: Job, from: u32, into: &mut [u8])
 // The bytes that a job gives, from one on, as many as find room.
 pub fn give(j: Job, track: &[u16], from: u32, into: &mut [u8])
     requires { ⌜ Sighted (alone (now track)) j ⌝ }
-    ensures { λ _. ⌜ ((g : Shape) (v : List ℕ) → now (into .exit) ≡ filled (now (into .entry)) from (given (actTurn g (j .rule .act) (sight (alone (now (track .entry))) j v) .moves))) ⌝ }
+    ensures { λ _. ⌜ ((g : Shape) (v : List ℕ) → now (into .exit) ≡ filled (now (into .entry)) from (given (jobTurn g (now (track .entry)) j v .moves))) ⌝ }
 {
     let rule = j.rule;
     let act = rule.act;
@@ -94,7 +94,7 @@ pub fn give(j: Job, track: &[u16], from: u32, into: &mut [u8])
 // The cells that a job lays, if it does not end in Unit Check.
 pub fn lay(j: Job, sent: &[u8], track: &mut [u16])
     requires { ⌜ WholeTrack (now track) × Sighted (alone (now track)) j × Accepts j (now sent) (now track) ⌝ }
-    ensures { λ _. ⌜ ((g : Shape) → now (track .exit) ≡ lay (actTurn g (j .rule .act) (sight (alone (now (track .entry))) j (now (sent .entry))) .lays) (now (track .entry))) ⌝ }
+    ensures { λ _. ⌜ ((g : Shape) → now (track .exit) ≡ lay (jobTurn g (now (track .entry)) j (now (sent .entry)) .lays) (now (track .entry))) ⌝ }
 {
     let rule = j.rule;
     let act = rule.act;

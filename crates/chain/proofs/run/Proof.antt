@@ -4,7 +4,8 @@ use mathlib.Core.Path.{_≡_, refl, sym, _∙_}
 use native.Mathlib.Omega.{arith}
 use lib.ListN.{length}
 use borrow.Author.Tests.{not-true, not-false}
-use Rattle.chain.specs.Step.{world, run}
+use Rattle.channel.specs.Channel.{world}
+use Rattle.chain.specs.Step.{run}
 use Rattle.chain.specs.Legal.{Legal}
 use Rattle.chain.proofs.Runs.{run-idle, run-none}
 use borrow.Author.Needs.{needs}
