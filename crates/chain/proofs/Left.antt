@@ -28,8 +28,8 @@ use Rattle.held.specs.declared.Selection.the-variants.{Nothing, On}
 use Rattle.turn.specs.declared.{Ending.Ending}
 use Rattle.turn.specs.declared.Ending.the-variants.{Normal}
 use Rattle.turn.specs.Turn.{positionAt, withSense, positionSought, after, Tracks, TrackArea, Piece, Moves, Takes, Turn, lay, checkTurn}
-use Rattle.format.specs.Format.{newCounts, newRecord, formatted}
-use Rattle.format.proofs.Laws.{length-area, length-new, formatted-inside}
+use Rattle.format.specs.Format.{newCounts, newRecord}
+use Rattle.format.proofs.Laws.{formatted, length-area, length-new, formatted-inside}
 use Rattle.command.specs.Command.{mostTally, named, Marks, marksOf, planOf, Sight, sight, allRecorded, goesOver, writesOver, failTurn, positionAfter, ordersAfter, endTurnAt, endTurn, endingOf, noOpTurn, senseTurn, soughtBy, addressed, arrivalTurn, seekTurn, maskedTurn, maskTurn, spacedPlace, spaceTurn, fieldTurn, searchTurn, readTurn, piece, toEnd, homeTurn, recordTakes, newTurn, r0Turn, recordTurn, overPiece, keySent, updateTurn, controlTurn, writeTurn, actTurn, jobOf, hasRead, readyBy, readyTurn, ruleTurn, command, task}
 use Rattle.command.specs.declared.{Got.Got, Task.Task, Job.Job, Plan.Plan}
 use Rattle.command.specs.declared.Got.the-variants.{Sees, Fails}

@@ -29,8 +29,8 @@ use Rattle.turn.specs.Turn.{positionAt, after, ordersOf, Tracks, TrackArea, Pie
 use Rattle.command.specs.declared.{Got.Got, Task.Task, Plan.Plan}
 use Rattle.command.specs.declared.Got.the-variants.{Sees, Fails}
 use Rattle.command.specs.Command.{seenWith, noCounts, named, homePlace, SelectedOn, homeDone, licensed, task, tallies, onRecord, aimed, unlessBarred, planOf, onHead, areasOf, allRead, countsIn, gets, seenOf, goesOver, writesOver, allRecorded, Sight, areasRead, sight, failTurn, endTurnAt, endTurn, endingOf, piece, toEnd, homeTurn, recordTakes, newTurn, r0Turn, recordTurn, overPiece, keySent, updateTurn, writeTurn, actTurn, jobOf, hasRead, readyBy, planReads, readyTurn, ruleTurn, command, positionAfter, ordersAfter}
-use Rattle.format.specs.Format.{newCounts, newRecord, formatted}
-use Rattle.format.proofs.Laws.{length-area, length-new}
+use Rattle.format.specs.Format.{newCounts, newRecord}
+use Rattle.format.proofs.Laws.{formatted, length-area, length-new}
 use Rattle.table.specs.declared.{Licence.Licence, Write.Write, Act.Act, Rule.Rule}
 use Rattle.table.specs.Table.{ruleOf, find, controls, searches, reads, writes}
 use Rattle.command.specs.declared.Plan.the-variants.{Refuses, Works}

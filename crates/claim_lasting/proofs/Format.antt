@@ -21,8 +21,8 @@ use Rattle.hunt.specs.declared.{Spot.Spot}
 use Rattle.hunt.specs.declared.Spot.the-variants.{R0, Marker}
 use Rattle.hunt.specs.Hunt.{countFirst}
 use Rattle.recording.proofs.Laws.{padded-bytes}
-use Rattle.format.specs.Format.{newCounts, newRecord, formatted}
-use Rattle.format.proofs.Laws.{length-area, length-new, length-formatted, formatted-before, formatted-inside, formatted-behind}
+use Rattle.format.specs.Format.{newCounts, newRecord}
+use Rattle.format.proofs.Laws.{formatted, length-area, length-new, length-formatted, formatted-before, formatted-inside, formatted-behind}
 use Rattle.sound.specs.Sound.{flagAt, endAt, Record, Records, none, more, Sound}
 use Rattle.claim_damage.specs.Damage.{IsRecord}
 use Rattle.claim_damage.proofs.Areas.{cell-recorded, unmarked, begun-marker}

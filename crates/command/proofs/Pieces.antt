@@ -17,8 +17,8 @@ use Rattle.areas.specs.declared.{Area.Area, Counts.Counts}
 use Rattle.areas.specs.Areas.{keyArea, dataArea}
 use Rattle.pack.specs.declared.{Head.Head}
 use Rattle.command.specs.Command.{areaIf, named, Sight, piece, toEnd, overPiece, keySent, allRecorded}
-use Rattle.format.specs.Format.{recorded, formatted}
-use Rattle.format.proofs.Laws.{length-area, formatted-is, recorded-lies}
+use Rattle.format.specs.Format.{recorded}
+use Rattle.format.proofs.Laws.{formatted, length-area, formatted-is, recorded-lies}
 use Rattle.turn.specs.Turn.{Piece, lay}
 
 -- ---- pieces on the track under a head

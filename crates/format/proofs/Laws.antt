@@ -18,7 +18,7 @@ use Rattle.areas.specs.declared.{Area.Area, Counts.Counts}
 use Rattle.areas.specs.Areas.{areaCells, dataBytes, keyCells, recordCells}
 use Rattle.areas.proofs.Laws.{length-areaCells}
 use Rattle.recording.specs.Recording.{wiped}
-use Rattle.format.specs.Format.{newCounts, newKey, newData, newRecord, formatted, recorded}
+use Rattle.format.specs.Format.{newCounts, newKey, newData, newRecord, recorded}
 
 -- ---- how many cells a new record takes
 
@@ -53,6 +53,10 @@ gaps : (n i : ℕ) → getD {A = ℕ} (replicate n 0) i 0 ≡ 0
 gaps zero i = refl
 gaps (suc n) zero = refl
 gaps (suc n) (suc i) = gaps n i
+
+-- cells laid from one on, and gaps behind them
+unfoldable pub formatted : List ℕ → ℕ → List ℕ → List ℕ
+formatted t at x = wiped (overlay t at x) (at + length x)
 
 module _ (t : List ℕ) (at : ℕ) (x : List ℕ) (ends : at + length x ≤ length t) where
   front-long : length (take at t) ≡ at

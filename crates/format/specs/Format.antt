@@ -1,16 +1,15 @@
--- Document 01, "What lies on a track" and "Commands": the cells of a new record; all later cells are made 0; which cells an update
--- needs.
+-- Document 01, "What lies on a track" and "Commands": the cells of a new record; which cells an update needs.
 use Prim.Native.Nat.{ℕ, _+_, _≤_}
 use mathlib.Core.Path.{_≡_}
 use mathlib.Core.Bool.{Bool}
 use mathlib.Core.List.{List, [], _∷_, _++_}
 use lib.ListN.{length}
 use lib.Dec.{eqb}
-use Rattle.cells.specs.Cells.{pick, both, part, overlay, padded, allBytes}
+use Rattle.cells.specs.Cells.{pick, both, part, padded, allBytes}
 use Rattle.house_check.specs.Check.{checkBytes, cellsWithCheck}
 use Rattle.areas.specs.declared.{Area.Area, Counts.Counts}
 use Rattle.areas.specs.Areas.{areaCells, countsOf, dataBytes, recordCells}
-use Rattle.recording.specs.Recording.{countSent, wiped}
+use Rattle.recording.specs.Recording.{countSent}
 
 -- ---- a new record, of the bytes v that were sent: count, key, data; missing bytes are zeros, surplus is not fetched
 
@@ -26,11 +25,6 @@ newData n v = cellsWithCheck (padded (dataBytes n) (part v (countSent + n .kl) (
 
 unfoldable pub newRecord : ℕ → List ℕ → List ℕ
 newRecord flag v = cellsWithCheck (flag ∷ padded countSent v) ++ (newKey (newCounts flag v) v ++ newData (newCounts flag v) v)
-
--- ---- a format write makes all later cells 0
-
-unfoldable pub formatted : List ℕ → ℕ → List ℕ → List ℕ
-formatted t at x = wiped (overlay t at x) (at + length x)
 
 -- ---- an update needs byte cells, not an agreeing old check
 

@@ -16,9 +16,10 @@ use Rattle.hunt.specs.Hunt.{WholeTrack}
 use Rattle.room.specs.Room.{fits}
 use Rattle.room.proofs.Laws.{fits-ends}
 use Rattle.recording.specs.Recording.{areaWritten, wiped, Lies}
-use Rattle.format.specs.Format.{newCounts, newRecord, formatted, Ends}
-use Rattle.format.proofs.Laws.{length-area, length-new}
-use Rattle.command.specs.Command.{named, seenWith, onHead, areasOf, seenOf, writesOver, goesOver, allRecorded, Sight, areasRead, sight, r0Turn, recordTurn, keySent, writeTurn}
+use Rattle.format.specs.Format.{newCounts, newRecord, Ends}
+use Rattle.format.proofs.Laws.{formatted, length-area, length-new}
+use Rattle.command.specs.Command.{named, seenWith, onHead, areasOf, seenOf, writesOver, goesOver, allRecorded, Sight, areasRead, sight, r0Turn, recordTurn, keySent, toEnd, writeTurn}
+use Rattle.command.proofs.Pieces.{format-is}
 use Rattle.table.specs.declared.{Names.Names, Write.Write, Act.Act}
 use Rattle.turn.specs.Turn.{alone, lay, isCheck}
 use Rattle.command.specs.declared.{Job.Job}
@@ -27,11 +28,11 @@ use Rattle.writes.proofs.Laws.{home-lays, new-fits, new-lays, update-re
 
 -- ---- the home address
 
-pub home-formatted : (v t t₁ t₂ : List ℕ) → t₁ ≡ areaWritten t 0 v 5 → t₂ ≡ wiped t₁ 7 → t₂ ≡ formatted t 0 (House.cellsWithCheck (padded 5 v))
+pub home-formatted : (v t t₁ t₂ : List ℕ) → WholeTrack t → t₁ ≡ areaWritten t 0 v 5 → t₂ ≡ wiped t₁ 7 → t₂ ≡ overlay t 0 (toEnd 0 (House.cellsWithCheck (padded 5 v)))
 unfolding formatted areaWritten
-home-formatted v t t₁ t₂ p q =
+home-formatted v t t₁ t₂ w p q =
     let long : 7 ≡ 0 + length (House.cellsWithCheck (padded 5 v)) = omega (arith, length-area 5 v) in
-    q ∙ ap₂ wiped p long
+    q ∙ ap₂ wiped p long ∙ sym (format-is t 0 (House.cellsWithCheck (padded 5 v)) (w .long) (omega arith))
 
 -- ---- a new record that has room
 
@@ -42,11 +43,12 @@ module _ (flag : ℕ) (v t : List ℕ) (w : WholeTrack t) (n : Counts) (p : n �
     r0-ends = record { counts = p; ends = omega (arith, fits-ends 7 (recordCells (newCounts flag v)) r, ap recordCells p, w .long) }
 
     pub r0-formatted : (t₁ t₂ : List ℕ) (m : ℕ) → t₁ ≡ overlay t 7 (newRecord flag v) → m ≡ recordCells n → t₂ ≡ wiped t₁ (7 + m)
-        → t₂ ≡ formatted t 7 (newRecord flag v)
+        → t₂ ≡ overlay t 7 (toEnd 7 (newRecord flag v))
     unfolding formatted
     r0-formatted t₁ t₂ m f q g =
         let long : m ≡ length (newRecord flag v) = q ∙ ap recordCells p ∙ sym (length-new flag v) in
         g ∙ ap₂ (λ (x : List ℕ) (k : ℕ). wiped x (7 + k)) f long
+        ∙ sym (format-is t 7 (newRecord flag v) (w .long) (omega (arith, length-new flag v, fits-ends 7 (recordCells (newCounts flag v)) r)))
 
   -- a record from a cell on, its marker first
   module _ (at : ℕ) (r : fits at (needed (newCounts flag v)) ≡ true) where
@@ -59,12 +61,13 @@ module _ (flag : ℕ) (v t : List ℕ) (w : WholeTrack t) (n : Counts) (p : n �
     record-ends = record { counts = p; ends = omega (arith, fits-ends at (needed (newCounts flag v)) r, ap recordCells p, w .long) }
 
     pub record-formatted : (t₁ t₂ : List ℕ) (m : ℕ) → t₁ ≡ overlay t at (marker ∷ newRecord flag v) → m ≡ needed n → t₂ ≡ wiped t₁ (at + m)
-        → t₂ ≡ formatted t at (marker ∷ newRecord flag v)
+        → t₂ ≡ overlay t at (toEnd at (marker ∷ newRecord flag v))
     unfolding formatted needed
     record-formatted t₁ t₂ m f q g =
         let cells : length (newRecord flag v) ≡ recordCells n = length-new flag v ∙ ap recordCells (sym p) in
         let long : at + m ≡ at + length (marker ∷ newRecord flag v) = omega (arith, q, cells) in
         g ∙ ap₂ wiped f long
+        ∙ sym (format-is t at (marker ∷ newRecord flag v) (w .long) (omega (arith, length-new flag v, fits-ends at (needed (newCounts flag v)) r)))
 
 -- ---- an area that an update goes over
 
@@ -118,9 +121,9 @@ module _ (t v : List ℕ) (j : Job) (w : Write) (s : DoesWrite j w) where
     laid-by : (y : Write) (u : List ℕ) → w ≡ y → u ≡ lay (writeTurn y x .lays) t → u ≡ lay (writeTurn w x .lays) t
     laid-by y u e f = f ∙ ap (λ (z : Write). lay (writeTurn z x .lays) t) (sym e)
 
-    pub lays-home : (u : List ℕ) → w ≡ Write.HomeAddress → u ≡ formatted t 0 (House.cellsWithCheck (padded 5 v)) → u ≡ lay (writeTurn w x .lays) t
+    pub lays-home : (u : List ℕ) → w ≡ Write.HomeAddress → u ≡ overlay t 0 (toEnd 0 (House.cellsWithCheck (padded 5 v))) → u ≡ lay (writeTurn w x .lays) t
     unfolding sight writeTurn
-    lays-home u e f = laid-by Write.HomeAddress u e (f ∙ home-lays x t wh)
+    lays-home u e f = laid-by Write.HomeAddress u e (f ∙ home-lays x t)
 
     module _ (home flag : ℕ) (e : w ≡ Write.R0) (p : home ≡ getD t 0 0 % 256) (q : flag ≡ flagOfR0 home) where
       r0-good : isCheck (r0Turn x flag .ending) ≡ false
@@ -129,13 +132,13 @@ module _ (t v : List ℕ) (j : Job) (w : Write) (s : DoesWrite j w) where
 
       pub r0-room : fits 7 (recordCells (newCounts flag v)) ≡ true
       unfolding sight r0Turn
-      r0-room = new-fits x t wh _ _ _ _ _ r0-good
+      r0-room = new-fits x t _ _ _ _ _ r0-good
 
-      pub lays-r0 : (u : List ℕ) → u ≡ formatted t 7 (newRecord flag v) → u ≡ lay (writeTurn w x .lays) t
+      pub lays-r0 : (u : List ℕ) → u ≡ overlay t 7 (toEnd 7 (newRecord flag v)) → u ≡ lay (writeTurn w x .lays) t
       unfolding sight writeTurn r0Turn
       lays-r0 u f =
           laid-by Write.R0 u e
-          (f ∙ new-lays x t wh _ _ _ _ _ (sym (length-new flag v)) r0-room ∙ ap (λ (i : ℕ). lay (r0Turn x i .lays) t) (flag-r0 e home flag p q))
+          (f ∙ new-lays x t _ _ _ _ _ r0-room ∙ ap (λ (i : ℕ). lay (r0Turn x i .lays) t) (flag-r0 e home flag p q))
 
     module _ (at flag : ℕ) (e : w ≡ Write.CountKeyData) (p : at ≡ endBy (j .task .place) (j .counts)) (q : flag ≡ flagAfter (j .counts .flag)) where
       record-good : isCheck (recordTurn x at flag .ending) ≡ false
@@ -144,14 +147,13 @@ module _ (t v : List ℕ) (j : Job) (w : Write) (s : DoesWrite j w) where
 
       pub record-room : fits at (needed (newCounts flag v)) ≡ true
       unfolding sight recordTurn
-      record-room = new-fits x t wh _ _ _ _ _ record-good
+      record-room = new-fits x t _ _ _ _ _ record-good
 
-      pub lays-record : (u : List ℕ) → u ≡ formatted t at (marker ∷ newRecord flag v) → u ≡ lay (writeTurn w x .lays) t
+      pub lays-record : (u : List ℕ) → u ≡ overlay t at (toEnd at (marker ∷ newRecord flag v)) → u ≡ lay (writeTurn w x .lays) t
       unfolding sight writeTurn recordTurn needed
       lays-record u f =
-          let long : needed (newCounts flag v) ≡ length (marker ∷ newRecord flag v) = omega (arith, length-new flag v) in
           laid-by Write.CountKeyData u e
-          (f ∙ new-lays x t wh _ _ _ _ _ long record-room
+          (f ∙ new-lays x t _ _ _ _ _ record-room
           ∙ ap₂ (λ (i k : ℕ). lay (recordTurn x i k .lays) t) p q)
 
     module _ (key : Bool) (e : w ≡ Write.Update key) where

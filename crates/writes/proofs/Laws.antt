@@ -21,26 +21,11 @@ use Rattle.room.specs.Room.{fits}
 use Rattle.room.proofs.Laws.{fits-ends}
 use Rattle.recording.specs.Recording.{areaWritten}
 use Rattle.command.specs.Command.{areaIf, named, Sight, allRecorded, failTurn, endTurn, endTurnAt, piece, toEnd, homeTurn, newTurn, overPiece, keySent, updateTurn}
-use Rattle.format.specs.Format.{formatted, recorded}
-use Rattle.format.proofs.Laws.{formatted-is, length-area, recorded-lies}
+use Rattle.format.specs.Format.{recorded}
+use Rattle.format.proofs.Laws.{formatted, formatted-is, length-area, recorded-lies}
 use Rattle.turn.specs.Turn.{Piece, Turn, lay, isCheck, checkTurn}
 use Rattle.command.specs.declared.{Task.Task}
 use Rattle.writes.specs.Writes.{goneOver, updated, Over}
-
--- ---- gaps to the track's end
-
-pub to-end : (t : List ℕ) (at : ℕ) (x : List ℕ) → WholeTrack t → at + length x ≤ trackCells → overlay t at (toEnd at x) ≡ formatted t at x
-unfolding overlay toEnd
-to-end t at x w h =
-    let rest : List ℕ = replicate (4096 - (at + length x)) 0 in
-    let n : at + length (x ++ rest) ≡ length t =
-    omega (arith, w .long, length-append x rest, length-replicate {A = ℕ} (4096 - (at + length x)) 0) in
-    ap (λ (k : ℕ). take at t ++ (x ++ rest) ++ drop k t) n
-    ∙ ap (λ (z : List ℕ). take at t ++ (x ++ rest) ++ z) (drop-length t)
-    ∙ append-nil (take at t ++ (x ++ rest))
-    ∙ sym (append-assoc (take at t) x rest)
-    ∙ ap (λ (k : ℕ). take at t ++ x ++ replicate (k - (at + length x)) 0) (sym (w .long))
-    ∙ sym (formatted-is t at x (omega (arith, w .long)))
 
 -- ---- what is laid, by the model's own choices
 
@@ -49,10 +34,10 @@ unfolding failTurn checkTurn isCheck
 no-check true y x row e = refl
 no-check false y x row e = absurd (false≢true (sym e))
 
-module _ (x : Sight) (t : List ℕ) (w : WholeTrack t) where
-  pub home-lays : formatted t 0 (House.cellsWithCheck (padded homeBytes (x .sent))) ≡ lay (homeTurn x .lays) t
+module _ (x : Sight) (t : List ℕ) where
+  pub home-lays : overlay t 0 (toEnd 0 (House.cellsWithCheck (padded homeBytes (x .sent)))) ≡ lay (homeTurn x .lays) t
   unfolding homeTurn endTurn endTurnAt lay piece
-  home-lays = sym (to-end t 0 (House.cellsWithCheck (padded homeBytes (x .sent))) w (omega (arith, length-area homeBytes (x .sent))))
+  home-lays = refl
 
   -- a new record
   module _ (k : Task) (first : ℕ) (n : Counts) (need : ℕ) (v : List ℕ) where
@@ -60,10 +45,9 @@ module _ (x : Sight) (t : List ℕ) (w : WholeTrack t) where
     unfolding newTurn
     new-fits e = no-check (fits first need) _ x NoRoom e
 
-    pub new-lays : need ≡ length v → fits first need ≡ true → formatted t first v ≡ lay (newTurn x k first n need v .lays) t
+    pub new-lays : fits first need ≡ true → overlay t first (toEnd first v) ≡ lay (newTurn x k first n need v .lays) t
     unfolding newTurn endTurnAt lay piece
-    new-lays l e =
-        sym (ap (λ (y : Turn). lay (y .lays) t) (first-picked _ _ _ e) ∙ to-end t first v w (omega (arith, l, fits-ends first need e)))
+    new-lays e = sym (ap (λ (y : Turn). lay (y .lays) t) (first-picked _ _ _ e))
 
 -- ---- an update
 

@@ -14,15 +14,15 @@ ghost use mathlib.Core.Path.{_≡_};
 ghost use mathlib.Core.Bool.{true, false};
 ghost use mathlib.Core.List.{_∷_};
 ghost use Prim.Native.Nat.{_<_};
-ghost use Rattle.cells.specs.Cells.{padded, marker};
+ghost use Rattle.cells.specs.Cells.{padded, overlay, marker};
 ghost use Rattle.house_check.specs.Check as House;
 ghost use Rattle.areas.specs.Areas.{homeBytes, r0First, recordCells, needed};
 ghost use Rattle.hunt.specs.Hunt.{WholeTrack};
 ghost use Rattle.room.specs.Room.{fits};
 ghost use Rattle.recording.specs.Recording.{Lies};
-ghost use Rattle.format.specs.Format.{newCounts, newRecord, formatted};
+ghost use Rattle.format.specs.Format.{newCounts, newRecord};
 ghost use Rattle.turn.specs.Turn.{alone, lay, isCheck, reportOf};
-ghost use Rattle.command.specs.Command.{areaIf, named, allRecorded, sight, recordTakes, keySent, writeTurn};
+ghost use Rattle.command.specs.Command.{areaIf, named, allRecorded, sight, recordTakes, keySent, toEnd, writeTurn};
 ghost use Rattle.ending.specs.Ending.{checkReport};
 ghost use Rattle.writes.specs.Writes.{DoesWrite, goneOver, updated, Over, r0Report, recordReport, overReport};
 
@@ -148,7 +148,7 @@ pub fn write(w: Write, j: Job, sent: &[u8], track: &[u16]) -> Report
 // Write HA.
 fn lay_home(sent: &[u8], track: &mut [u16])
     requires { ⌜ WholeTrack (now track) ⌝ }
-    ensures { λ _. ⌜ now (track .exit) ≡ formatted (now (track .entry)) 0 (House.cellsWithCheck (padded homeBytes (now (sent .entry)))) ⌝ }
+    ensures { λ _. ⌜ now (track .exit) ≡ overlay (now (track .entry)) 0 (toEnd 0 (House.cellsWithCheck (padded homeBytes (now (sent .entry))))) ⌝ }
 {
     recording::write_area(track, 0, sent, HOME_BYTES);
     recording::wipe(track, R0_FIRST as usize);
@@ -157,7 +157,7 @@ fn lay_home(sent: &[u8], track: &mut [u16])
 // Write R0, where it has room.
 fn lay_r0(flag: u8, sent: &[u8], track: &mut [u16])
     requires { ⌜ WholeTrack (now track) × (fits r0First (recordCells (newCounts flag (now sent))) ≡ true) ⌝ }
-    ensures { λ _. ⌜ now (track .exit) ≡ formatted (now (track .entry)) r0First (newRecord flag (now (sent .entry))) ⌝ }
+    ensures { λ _. ⌜ now (track .exit) ≡ overlay (now (track .entry)) r0First (toEnd r0First (newRecord flag (now (sent .entry)))) ⌝ }
 {
     let n = format::new_counts(flag, sent);
     format::lay_record(track, R0_FIRST, flag, sent, n);
@@ -167,7 +167,7 @@ fn lay_r0(flag: u8, sent: &[u8], track: &mut [u16])
 // Write Count Key Data, from a cell on where it has room.
 fn lay_after(at: u32, flag: u8, sent: &[u8], track: &mut [u16])
     requires { ⌜ WholeTrack (now track) × (fits at (needed (newCounts flag (now sent))) ≡ true) ⌝ }
-    ensures { λ _. ⌜ now (track .exit) ≡ formatted (now (track .entry)) at (marker ∷ newRecord flag (now (sent .entry))) ⌝ }
+    ensures { λ _. ⌜ now (track .exit) ≡ overlay (now (track .entry)) at (toEnd at (marker ∷ newRecord flag (now (sent .entry)))) ⌝ }
 {
     let n = format::new_counts(flag, sent);
     format::lay_marked(track, at as u16, flag, sent, n);

@@ -7,7 +7,7 @@ use Rattle.recording.proofs.wipe.Reads as wipe-reads
 use Rattle.recording.proofs.write_area.Reads as write-area-reads
 
 returns : tie.Need-returns
-returns c = home-formatted _ _ _ _ (c .before .before .before .before .before .before .write-area .ensures) (c .before .before .wipe .ensures)
+returns c = home-formatted _ _ _ _ (c .before .before .before .before .before .before .before .before .before .before .pre) (c .before .before .before .before .before .before .write-area .ensures) (c .before .before .wipe .ensures)
 
 pub lay-home-spec : {M : Type 1} → statement M
 lay-home-spec =
