@@ -5,7 +5,7 @@ use mathlib.Core.Bool.{Bool, true, not}
 use mathlib.Core.List.{List}
 use lib.Dec.{ltb, leb}
 use borrow.Author.Tests.{ltb-true, leb-true, lt-ltb, le-leb}
-use Rattle.cells.specs.Cells.{trackCells}
+use Rattle.cells.specs.Cells.{trackCells, marks}
 use Rattle.cells.proofs.Tests.{first-of, second-of, both-of}
 use Rattle.mask.specs.Mask.{legal}
 use Rattle.words.specs.Words.{addresses}
@@ -18,7 +18,9 @@ use Rattle.table.specs.Table.{ruleOf}
 use Rattle.held.specs.declared.{Selection.Selection, Position.Position, Orders.Orders, Channel.Channel}
 use Rattle.held.specs.declared.Selection.the-variants.{Nothing, On}
 use Rattle.turn.specs.Turn.{ordersOf}
-use Rattle.chain.specs.Legal.{keys, positionFits, channelFits, selectionFits, ordersFit}
+use Rattle.channel.specs.Channel.{World}
+use Rattle.chain.specs.Step.{trackUnder}
+use Rattle.chain.specs.Legal.{keys, positionFits, channelFits, selectionFits, ordersFit, heldFits, Legal}
 
 -- ---- where the head stands
 
@@ -82,3 +84,24 @@ pub ordered-fit : (m : List Bool) (mask : ℕ) (set : Bool) (code : ℕ) (whole 
     → legal mask ≡ true → tally ≤ mostTally → Leaves m (ruleOf code .selects) x → ordersFit m (ordersOf mask set code whole tally x) ≡ true
 unfolding ordersFit ordersOf
 ordered-fit m mask set code whole tally x l h k = both-of l (both-of (le-leb _ _ h) (leaves-fit m (ordersOf mask set code whole tally x) x k))
+
+-- ---- all of it
+
+module _ (g : Shape) (w : World) where
+  pub held-fits : positionFits g (w .held .position) ≡ true → channelFits (w .held .channel) ≡ true
+      → ordersFit (marks (trackUnder g w)) (w .held .orders) ≡ true → heldFits g w ≡ true
+  unfolding heldFits
+  held-fits p q r = both-of p (both-of q r)
+
+  module _ (L : Legal g w) where
+    pub standing : positionFits g (w .held .position) ≡ true
+    unfolding heldFits
+    standing = first-of (positionFits g (w .held .position)) _ (L .held)
+
+    pub channeled : channelFits (w .held .channel) ≡ true
+    unfolding heldFits
+    channeled = first-of (channelFits (w .held .channel)) _ (second-of (positionFits g (w .held .position)) _ (L .held))
+
+    pub ordered : ordersFit (marks (trackUnder g w)) (w .held .orders) ≡ true
+    unfolding heldFits
+    ordered = second-of (channelFits (w .held .channel)) _ (second-of (positionFits g (w .held .position)) _ (L .held))

@@ -21,7 +21,7 @@ use Rattle.channel.specs.Channel.{fetched, World, world, wordEnd, turnOn, obeye
 use Rattle.channel.specs.Inside.{CanObey}
 use Rattle.chain.specs.Legal.{Legal}
 use Rattle.chain.specs.Step.{under, trackUnder, next, tracksOf, stops, turnOf, settled, obeyed, stepBy, step}
-use Rattle.chain.proofs.Fits.{key-in, selected-on}
+use Rattle.chain.proofs.Fits.{key-in, selected-on, channeled, ordered}
 use Rattle.chain.proofs.Legal.{track-whole, turn-left, put-back}
 
 pub world-eq : {h k : Held} {s t c d : List ℕ} → h ≡ k → s ≡ t → c ≡ d → world h s c ≡ world k t d
@@ -61,10 +61,10 @@ module _ (g : Shape) (h : Held) (w : Word) (s cells : List ℕ) (L : Legal g (wo
       subst (CanObey h w s) (sym (lent-there a e))
       (record {
         room = omega (arith, L .room);
-        key = key-in (h .channel) (L .channeled);
+        key = key-in (h .channel) (channeled g W L);
         reaches = r;
         whole = track-whole g W L;
-        selected = selected-on _ (h .orders) (L .ordered);
+        selected = selected-on _ (h .orders) (ordered g W L);
       })
 
   -- a command works on that track alone

@@ -20,13 +20,13 @@ use Rattle.pack.proofs.Laws.{length-track, start-inside}
 use Rattle.hunt.specs.Hunt as Hunt
 use Rattle.held.specs.declared.{Position.Position, Held.Held}
 use Rattle.held.specs.Held.{fresh, freshOrders, freshChannel, rested}
-use Rattle.turn.specs.Turn.{ordersOf, Turn, given, reportOf, lay}
+use Rattle.turn.specs.Turn.{Turn, given, reportOf, lay}
 use Rattle.channel.specs.Channel.{onward, stride, fetched, placed, goesOn, heldAfter, statusAfter, withStatus, storageAfter, World, world}
 use Rattle.table.specs.Table.{controls, searches, reads, writes, find, ruleOf}
 use Rattle.command.proofs.Pieces.{length-laid}
 use Rattle.chain.specs.Step.{under, trackUnder, next, tracksOf, layOn, stops, jumped, turnOf, settled, obeyed, stepBy, step}
 use Rattle.chain.specs.Legal.{positionFits, channelFits, selectionFits, ordersFit, Legal}
-use Rattle.chain.proofs.Fits.{stands-on, key-in, channel-fits}
+use Rattle.chain.proofs.Fits.{stands-on, key-in, channel-fits, held-fits, standing, channeled, ordered}
 use Rattle.chain.proofs.Left.{Left, Chosen, anywhere, here, command-left}
 use Rattle.chain.proofs.Pack.{laid-on}
 
@@ -59,7 +59,7 @@ fresh-stands g s e = e
 module _ (g : Shape) (w : World) (L : Legal g w) where
   pub inside : under g (w .held) + trackCells ≤ length (w .cells)
   unfolding under
-  inside = start-inside g _ _ (stands-on g (w .held .position) (L .standing)) (w .cells) (L .whole)
+  inside = start-inside g _ _ (stands-on g (w .held .position) (standing g w L)) (w .cells) (L .whole)
 
   pub track-whole : Hunt.WholeTrack (trackUnder g w)
   unfolding trackUnder
@@ -71,23 +71,19 @@ module _ (g : Shape) (w : World) (L : Legal g w) where
   rests s k st c l m = record {
     whole = record { cylinders = L .whole .cylinders; heads = L .whole .heads; count = m ∙ L .whole .count };
     room = omega (arith, L .room);
-    standing = fresh-stands g s k;
-    channeled = fresh-channel s;
-    ordered = fresh-orders _ s;
+    held = held-fits g _ (fresh-stands g s k) (fresh-channel s) (fresh-orders _ s);
   }
 
   stops-legal : (cause : Cause) → Legal g (stops w cause)
   unfolding stops
-  stops-legal cause = rests (w .held .position) (L .standing) _ _ (length-stored (w .storage) _ (L .room)) refl
+  stops-legal cause = rests (w .held .position) (standing g w L) _ _ (length-stored (w .storage) _ (L .room)) refl
 
   jumped-legal : (a : ℕ) → Legal g (world (jumped (w .held) a) (w .storage) (w .cells))
   unfolding jumped under trackUnder
   jumped-legal a = record {
     whole = L .whole;
     room = L .room;
-    standing = L .standing;
-    channeled = channel-fits _ (key-in (w .held .channel) (L .channeled)) (omega arith);
-    ordered = L .ordered;
+    held = held-fits g _ (standing g w L) (channel-fits _ (key-in (w .held .channel) (channeled g w L)) (omega arith)) (ordered g w L);
   }
 
   -- ---- a command
@@ -131,7 +127,7 @@ module _ (g : Shape) (w : World) (L : Legal g w) where
 
     onward-fits : (n : ℕ) → channelFits (onward (w .held .channel) n) ≡ true
     unfolding onward
-    onward-fits n = channel-fits _ (key-in (w .held .channel) (L .channeled)) (omega arith)
+    onward-fits n = channel-fits _ (key-in (w .held .channel) (channeled g w L)) (omega arith)
 
     abbrev st′ : List ℕ
     st′ = placed (w .storage) d (given (x .moves))
@@ -140,9 +136,7 @@ module _ (g : Shape) (w : World) (L : Legal g w) where
     goes = record {
       whole = record { cylinders = L .whole .cylinders; heads = L .whole .heads; count = kept-size ∙ L .whole .count };
       room = omega (arith, L .room, length-placed (w .storage) d (given (x .moves)) r);
-      standing = f .standing;
-      channeled = onward-fits _;
-      ordered = fits-there on st′ (f .chosen);
+      held = held-fits g _ (f .standing) (onward-fits _) (fits-there on st′ (f .chosen));
     }
 
     ends-size : (y : Status) → length (stored st′ y) ≡ length (w .storage)
@@ -169,7 +163,7 @@ module _ (g : Shape) (w : World) (L : Legal g w) where
   unfolding turnOf trackUnder under tracksOf
   turn-left d =
       command-left g (tracksOf g (w .cells) (w .held .position .cylinder)) (w .held .position) (w .held .orders) (d .code) (fetched (w .storage) d)
-      (L .standing) track-whole (L .ordered)
+      (standing g w L) track-whole (ordered g w L)
 
   takes-legal : (x : Tested) → TestedIn (w .storage) x → Legal g (stepBy g w x)
   unfolding stepBy obeyed

@@ -52,6 +52,4 @@ heldFits g w =
 pub record Legal (g : Shape) (w : World) : Type 0 where
   pub whole : WholePack g (w .cells)
   pub room : leastStorage ≤ length (w .storage)
-  pub standing : positionFits g (w .held .position) ≡ true
-  pub channeled : channelFits (w .held .channel) ≡ true
-  pub ordered : ordersFit (marks (trackUnder g w)) (w .held .orders) ≡ true
+  pub held : heldFits g w ≡ true

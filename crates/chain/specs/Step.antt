@@ -10,7 +10,7 @@ use Rattle.pack.specs.Pack.{startOf, trackAt}
 use Rattle.held.specs.declared.{Held.Held}
 use Rattle.held.specs.Held.{rested}
 use Rattle.table.specs.Table.{isWrite, ruleOf}
-use Rattle.turn.specs.Turn.{Tracks, TrackArea, Piece, Turn, reportOf}
+use Rattle.turn.specs.Turn.{Tracks, TrackArea, Piece, Turn}
 use Rattle.command.specs.Command.{command}
 use Rattle.channel.specs.Channel.{fetched, World, world, wordEnd}
 

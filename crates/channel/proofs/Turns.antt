@@ -20,7 +20,7 @@ use Rattle.held.specs.declared.{Held.Held, Position.Position, Orders.Orders}
 use Rattle.turn.specs.declared.{Transfer.Transfer, Report.Report}
 use Rattle.turn.specs.Turn.{TrackArea, Piece, Moves, None, Gives, Takes, alone, given, transferOf, filled, Turn, reportOf, lay, isCheck, checkTurn}
 use Rattle.command.specs.declared.{Job.Job, Ready.Ready}
-use Rattle.command.specs.Command.{sight, actTurn, readyOf}
+use Rattle.command.specs.Command.{sight, readyOf}
 use Rattle.command.proofs.Moves.{LaysBy, Lays, acts-lay, checks-lay, check-lays}
 use Rattle.command.proofs.Comes.{job-acts, row-ends}
 use Rattle.unit.specs.Unit.{jobTurn, Accepts}

@@ -33,7 +33,7 @@ use Rattle.command.specs.Command.{SelectedOn}
 use Rattle.claim_frame.proofs.Turns.{only-writes-lay}
 use Rattle.chain.specs.Step.{under, trackUnder, next, tracksOf, layOn, stops, turnOf, settled, obeyed, stepBy, step, testedReads, wordReads, testedWrites}
 use Rattle.chain.specs.Legal.{Legal}
-use Rattle.chain.proofs.Fits.{selected-on}
+use Rattle.chain.proofs.Fits.{selected-on, ordered}
 use Rattle.claim_damage.specs.Damage.{any, sameArea}
 use Rattle.claim_damage.proofs.Hurts.{Hurt, damaged-hurt, same-hurt, same-area}
 use Rattle.claim_damage.proofs.Struck.{lies, command-spared, command-struck}
@@ -167,7 +167,7 @@ module _ (n s : ℕ) (x : Area) (c c′ : List ℕ) (harm : Harmed n s x c c′)
     module _ (L : Legal g w) (q : nextWrites w ≡ false) where
       sel : SelectedOn (marks (tracksOf g c (w .held .position .cylinder) (w .held .position .head))) (w .held .orders .selection)
       unfolding tracksOf
-      sel = selected-on _ (w .held .orders) (unfold trackUnder under in subst (Legal g) w-is L .ordered)
+      sel = selected-on _ (w .held .orders) (unfold trackUnder under in ordered g _ (subst (Legal g) w-is L))
 
       pub step-kept : readsIt g n x w ≡ false → Alike c c′ (step g w) (step g v)
       unfolding nextWrites readsIt wordReads step next

@@ -8,11 +8,11 @@ use lib.ListN.{length}
 use lib.Dec.{leb}
 use borrow.Author.Tests.{leb-true, eqb-true}
 use Rattle.cells.specs.Cells.{pick}
-use Rattle.cells.proofs.Tests.{first-of, second-of, both-of}
+use Rattle.cells.proofs.Tests.{first-of, second-of}
 use Rattle.pack.specs.declared.{Shape.Shape}
 use Rattle.pack.specs.Pack.{mostCylinders, mostHeads, from1To, packFits, WholePack}
 use Rattle.channel.specs.Channel.{World}
-use Rattle.chain.specs.Legal.{storageFits, positionFits, channelFits, heldFits, Legal}
+use Rattle.chain.specs.Legal.{storageFits, heldFits, Legal}
 use Rattle.host.specs.declared.{Answer.Answer}
 use Rattle.host.specs.declared.Answer.the-variants.{BadStorage, BadPack, BadHeld}
 use Rattle.host.specs.declared.Guarded.the-variants.{Passes, Answers}
@@ -47,20 +47,16 @@ module _ (g : Shape) (w : World) where
   unfolding guardOf storageFits heldFits
   passes-legal e =
       let t = by (storageFits (length (w .storage))) (packFits g (length (w .cells))) (heldFits g w) e in
-      let f = second-of (positionFits g (w .held .position)) _ (t .2) in
       record {
         whole = fits-whole g (w .cells) (t .1);
         room = leb-true _ _ (first-of (leb 80 (length (w .storage))) _ (t .0));
-        standing = first-of (positionFits g (w .held .position)) _ (t .2);
-        channeled = first-of (channelFits (w .held .channel)) _ f;
-        ordered = second-of (channelFits (w .held .channel)) _ f;
+        held = t .2;
       }
 
   pub legal-passes : Legal g w → storageFits (length (w .storage)) ≡ true → packFits g (length (w .cells)) ≡ true → guardOf g w ≡ Passes
   unfolding guardOf heldFits
   legal-passes L p q =
-      let r : heldFits g w ≡ true = both-of (L .standing) (both-of (L .channeled) (L .ordered)) in
-      λ i. pick (p i) (pick (q i) (pick (r i) Passes (Answers BadHeld)) (Answers BadPack)) (Answers BadStorage)
+      λ i. pick (p i) (pick (q i) (pick (L .held i) Passes (Answers BadHeld)) (Answers BadPack)) (Answers BadStorage)
 
   pub passes-sizes : guardOf g w ≡ Passes → (storageFits (length (w .storage)) ≡ true) × (packFits g (length (w .cells)) ≡ true)
   unfolding guardOf

@@ -3,26 +3,23 @@
 use Prim.Native.Nat.{ℕ, _+_, _-_, _<_, _≤_}
 use mathlib.Core.Path.{_≡_, refl, sym, ap, _∙_}
 use mathlib.Core.Bool.{Bool, true, false, false≢true}
-use mathlib.Core.List.{List, [], _∷_, _++_, append-assoc, append-nil}
+use mathlib.Core.List.{List, [], _∷_, _++_}
 use native.Mathlib.Omega.{arith}
-use lib.ListN.{length, take, drop, replicate, length-append, length-replicate}
-use lib.Seq.{drop-length}
+use lib.ListN.{length}
 use lib.Dec.{ltb}
 use borrow.Author.Tests.{lt-ltb}
-use Rattle.cells.specs.Cells.{pick, both, overlay, part, padded, trackCells}
+use Rattle.cells.specs.Cells.{pick, both, overlay, part, padded}
 use Rattle.cells.proofs.Tests.{first-of, second-of, first-picked}
 use Rattle.rows.specs.declared.{Row.Row}
 use Rattle.rows.specs.declared.Row.the-variants.{Unreadable, NoRoom}
 use Rattle.house_check.specs.Check as House
 use Rattle.areas.specs.declared.{Area.Area, Counts.Counts}
 use Rattle.areas.specs.Areas.{homeBytes, keyArea, dataArea}
-use Rattle.hunt.specs.Hunt.{WholeTrack}
 use Rattle.room.specs.Room.{fits}
-use Rattle.room.proofs.Laws.{fits-ends}
 use Rattle.recording.specs.Recording.{areaWritten}
 use Rattle.command.specs.Command.{areaIf, named, Sight, allRecorded, failTurn, endTurn, endTurnAt, piece, toEnd, homeTurn, newTurn, overPiece, keySent, updateTurn}
 use Rattle.format.specs.Format.{recorded}
-use Rattle.format.proofs.Laws.{formatted, formatted-is, length-area, recorded-lies}
+use Rattle.format.proofs.Laws.{recorded-lies}
 use Rattle.turn.specs.Turn.{Piece, Turn, lay, isCheck, checkTurn}
 use Rattle.command.specs.declared.{Task.Task}
 use Rattle.writes.specs.Writes.{goneOver, updated, Over}

@@ -1,7 +1,7 @@
 -- `chain::step` meets its contract: what the word's tests say decides which call, and each leaves what the model has there.
 use mathlib.Core.Path.{refl}
 use Rattle.chain.specs.Step.{stepBy}
-use Rattle.chain.proofs.Fits.{key-in}
+use Rattle.chain.proofs.Fits.{key-in, channeled}
 use Rattle.chain.proofs.Laws.{taken, word-reaches, world-eq}
 use borrow.Author.Needs.{needs}
 use Rattle.chain.proofs.step.Statement.{statement}
@@ -30,7 +30,7 @@ enum-known-cause c = search needs
 stop-requires : tie.Need-stop-requires
 stop-requires c κs =
     let p = c .before .before .before .before .before .before .before .before .pre in
-    (p .room, key-in _ (p .channeled))
+    (p .room, key-in _ (channeled _ _ p))
 
 same-length : tie.Need-same-length
 same-length c = search needs
