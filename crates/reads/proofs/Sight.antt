@@ -20,7 +20,7 @@ use Rattle.turn.specs.Turn.{Tracks, given, transferOf, filled, reportOf}
 use Rattle.command.specs.declared.{Job.Job}
 use Rattle.ending.specs.Ending.{reportAt}
 use Rattle.reads.specs.declared.{Rest.Rest}
-use Rattle.reads.specs.Inside.{readReport, LieIf, LieAll, Puts, start, countGiven, keyGiven, bodyGiven, bytesGiven, manyGiven}
+use Rattle.reads.specs.Inside.{LieIf, LieAll, Puts, start, countGiven, keyGiven, bodyGiven, bytesGiven, manyGiven}
 use Rattle.reads.proofs.Laws.{long, all-put, none-put}
 
 -- ---- a count's 8 bytes are those of its cells but the flag's
@@ -181,7 +181,8 @@ module _ (t : Tracks) (j : Job) (s : Sighted t j) (counted : Bool) where
   many-are Names.HomeAddress p = long _ 0 5 (home-on t j s p)
   many-are (Names.Count key body) p = record-many _ _ counted (j .counts) key body (record-on t j s counted key body p)
 
-  pub told-are : (v : List ℕ) → readReport counted j ≡ reportOf (readTurn counted (sight t j v))
-  unfolding readReport reportOf transferOf readTurn endTurn endTurnAt sight reportAt
+  pub told-are : (v : List ℕ)
+      → reportAt j (j .task) (endingOf j) (Transfer.Gives (manyGiven counted (j .rule .names) (j .counts))) false ≡ reportOf (readTurn counted (sight t j v))
+  unfolding reportOf transferOf readTurn endTurn endTurnAt sight reportAt
   told-are v =
       ap (λ (m : ℕ). reportAt j (j .task) (endingOf j) (Transfer.Gives m) false) (sym (ap length (gives-these t j s counted) ∙ many-are (j .rule .names) refl))

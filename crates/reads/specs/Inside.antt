@@ -1,7 +1,7 @@
 -- What the functions inside the crate promise one another. No rule of document 01's.
 use Prim.Native.Nat.{ℕ, _+_, _-_, _<_, _≤_}
 use mathlib.Core.Path.{_≡_}
-use mathlib.Core.Bool.{Bool, false}
+use mathlib.Core.Bool.{Bool}
 use mathlib.Core.List.{List, [], _++_}
 use lib.ListN.{length, take, drop}
 use Rattle.cells.specs.Cells.{pick, part, overlay, bytesOf}
@@ -11,10 +11,6 @@ use Rattle.recording.specs.Recording.{countSent}
 use Rattle.table.specs.declared.{Names.Names}
 -- Rest: at, where the next byte goes; from, how many bytes are left out before it.
 use Rattle.reads.specs.declared.{Rest.Rest}
-use Rattle.turn.specs.declared.{Transfer.Transfer, Report.Report}
-use Rattle.command.specs.declared.{Job.Job}
-use Rattle.command.specs.Command.{endingOf}
-use Rattle.ending.specs.Ending.{reportAt}
 
 -- so many bytes from a cell on lie on the track, if there are any
 pub record LieIf (t : List ℕ) (first n : ℕ) : Type 0 where
@@ -67,7 +63,3 @@ pub record LieAll (t : List ℕ) (counted k d : Bool) (c : ℕ) (n : Counts) : T
   pub count : LieIf t (c + 1) (pick counted countSent 0)
   pub key : LieIf t (keyArea c n .first) (pick k (n .kl) 0)
   pub body : LieIf t (dataArea c n .first) (pick d (n .dl) 0)
-
--- what a read tells, all its areas being readable
-unfoldable pub readReport : Bool → Job → Report
-readReport counted j = reportAt j (j .task) (endingOf j) (Transfer.Gives (manyGiven counted (j .rule .names) (j .counts))) false

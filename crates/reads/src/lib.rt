@@ -6,12 +6,14 @@ use turn::Report;
 use turn::Transfer;
 ghost use mathlib.Core.Path.{_≡_};
 ghost use mathlib.Core.List.{List};
+ghost use mathlib.Core.Bool.{false};
 ghost use Prim.Native.Nat.{ℕ, _+_, _≤_};
 ghost use lib.ListN.{length};
 ghost use Rattle.cells.specs.Cells.{pick, overlay, part, bytesOf};
 ghost use Rattle.turn.specs.Turn.{alone, filled, given};
-ghost use Rattle.command.specs.Command.{Sighted, sight, readTurn};
-ghost use Rattle.reads.specs.Inside.{LieIf, LieAll, Puts, recordGiven, manyGiven, readReport};
+ghost use Rattle.command.specs.Command.{Sighted, sight, endingOf, readTurn};
+ghost use Rattle.ending.specs.Ending.{reportAt};
+ghost use Rattle.reads.specs.Inside.{LieIf, LieAll, Puts, recordGiven, manyGiven};
 
 const HOME_BYTES: u16 = 5;
 
@@ -126,7 +128,7 @@ fn many_given(counted: bool, names: Names, n: Counts) -> u32
 
 // A read that has read all that it names.
 pub fn read(counted: bool, j: Job) -> Report
-    ensures { λ r. ⌜ r ≡ readReport counted j ⌝ }
+    ensures { λ r. ⌜ r ≡ reportAt j (j .task) (endingOf j) (Transfer.Gives (manyGiven counted (j .rule .names) (j .counts))) false ⌝ }
 {
     let end = ending::ending_of(j);
     let rule = j.rule;

@@ -6,7 +6,7 @@ use mathlib.Core.List.{List, [], _∷_, _++_}
 use native.Mathlib.Omega.{arith}
 use lib.ListN.{getD}
 use lib.Dec.{ltb}
-use Rattle.cells.specs.Cells.{pick, both}
+use Rattle.cells.specs.Cells.{both, marker}
 use Rattle.cells.proofs.Tests.{first-picked, second-picked}
 use Rattle.rows.specs.declared.Row.the-variants.{Unreadable, NoRoom}
 use Rattle.areas.specs.declared.{Area.Area, Counts.Counts}
@@ -17,44 +17,51 @@ use Rattle.room.proofs.Laws.{fits-ends}
 use Rattle.held.specs.declared.Selection.the-variants.{On}
 use Rattle.turn.specs.declared.{Ending.Ending, Transfer.Transfer, Report.Report}
 use Rattle.turn.specs.declared.Ending.the-variants.{Normal}
-use Rattle.command.specs.Command.{areaIf, named, task, allRecorded, Sight, sight, failTurn, endTurnAt, endTurn, endingOf, piece, toEnd, homeTurn, recordTakes, newTurn, r0Turn, recordTurn, overPiece, keySent, updateTurn, writeTurn}
-use Rattle.format.specs.Format.{newCounts, recorded}
+use Rattle.command.specs.Command.{areaIf, named, task, allRecorded, Sight, sight, endingOf, piece, toEnd, homeTurn, recordTakes, newTurn, r0Turn, recordTurn, keySent, updateTurn, writeTurn}
+use Rattle.format.specs.Format.{newCounts, newRecord, recorded}
 use Rattle.table.specs.declared.{Write.Write}
-use Rattle.turn.specs.Turn.{Piece, Moves, Takes, Turn, alone, transferOf, reportOf}
+use Rattle.turn.specs.Turn.{Takes, alone, transferOf, reportOf}
 use Rattle.command.specs.declared.{Task.Task, Job.Job}
 use Rattle.ending.specs.Ending.{reportAt, checkReport}
 use Rattle.ending.proofs.Laws.{ended-at, ended, failed-by}
-use Rattle.writes.specs.Writes.{DoesWrite, newReport, r0Report, recordReport, overReportBy, overReport}
+use Rattle.writes.specs.Writes.{DoesWrite}
 use Rattle.writes.proofs.Calls.{flag-r0, recorded-is}
 
 -- ---- a new record, by whether it has room
 
-module _ (j : Job) (k : Task) (first need : ℕ) (n : Counts) (v : List ℕ) (b : Bool) (r : Report) (q : b ≡ fits first need) where
-  pub new-fails : b ≡ false → r ≡ checkReport (j .position) (j .orders) NoRoom → r ≡ newReport j k first n need v
-  unfolding newReport
-  new-fails e f = f ∙ sym (second-picked _ _ _ (sym q ∙ e))
+module _ (t : List ℕ) (j : Job) (v : List ℕ) where
+  abbrev x : Sight
+  x = sight (alone t) j v
 
-  pub new-ends : (m : ℕ) → b ≡ true → m ≡ recordTakes v n → r ≡ reportAt j k Normal (Transfer.Takes m) false → r ≡ newReport j k first n need v
-  unfolding newReport
-  new-ends m e f g = g ∙ ap (λ (i : ℕ). reportAt j k Normal (Transfer.Takes i) false) f ∙ sym (first-picked _ _ _ (sym q ∙ e))
+  module _ (k : Task) (first need : ℕ) (n : Counts) (c : List ℕ) (b : Bool) (r : Report) (q : b ≡ fits first need) where
+    pub new-fails : b ≡ false → r ≡ checkReport (j .position) (j .orders) NoRoom → r ≡ reportOf (newTurn x k first n need c)
+    unfolding newTurn sight
+    new-fails e f = f ∙ sym (failed-by x NoRoom) ∙ ap reportOf (sym (second-picked _ _ _ (sym q ∙ e)))
 
-module _ (j : Job) (flag : ℕ) (v : List ℕ) (n : Counts) (p : n ≡ newCounts flag v) (need : ℕ) where
-  pub r0-told : (r : Report) → need ≡ recordCells n → r ≡ newReport j (j .task) 7 n need v → r ≡ r0Report j flag v
-  unfolding r0Report
-  r0-told r q f =
-      f ∙ ap (λ (i : ℕ). newReport j (j .task) 7 n i v) q ∙ ap (λ (m : Counts). newReport j (j .task) 7 m (recordCells m) v) p
+    pub new-ends : (m : ℕ) → b ≡ true → m ≡ recordTakes v n → r ≡ reportAt j k Normal (Transfer.Takes m) false → r ≡ reportOf (newTurn x k first n need c)
+    unfolding newTurn sight transferOf
+    new-ends m e f g =
+        g ∙ ap (λ (i : ℕ). reportAt j k Normal (Transfer.Takes i) false) f
+        ∙ sym (ended-at x Normal (Takes (recordTakes v n)) (piece x first (toEnd first c) ∷ []) false k) ∙ ap reportOf (sym (first-picked _ _ _ (sym q ∙ e)))
 
-  -- where it has room its cell lies on the track
-  pub record-begins : (at : ℕ) (b : Bool) → need ≡ needed n → b ≡ fits at need → b ≡ true → at + 12 ≤ 4096
-  unfolding needed recordCells
-  record-begins at b q r e = omega (arith, fits-ends at need (sym r ∙ e), q)
+  module _ (flag : ℕ) (n : Counts) (p : n ≡ newCounts flag v) (need : ℕ) where
+    pub r0-told : (r : Report) → need ≡ recordCells n → r ≡ reportOf (newTurn x (j .task) 7 n need (newRecord flag v)) → r ≡ reportOf (r0Turn x flag)
+    unfolding r0Turn sight
+    r0-told r q f =
+        let told : Counts → ℕ → Report = λ m i. reportOf (newTurn x (j .task) 7 m i (newRecord flag v)) in
+        f ∙ ap (told n) q ∙ ap (λ (m : Counts). told m (recordCells m)) p
 
-  pub record-told : (at : ℕ) (r : Report) → need ≡ needed n → r ≡ newReport j (task (j .task .head) (at + 1) (On (Marker at)) 0) at n need v
-      → r ≡ recordReport j at flag v
-  unfolding recordReport
-  record-told at r q f =
-      let k : Task = task (j .task .head) (at + 1) (On (Marker at)) 0 in
-      f ∙ ap (λ (i : ℕ). newReport j k at n i v) q ∙ ap (λ (m : Counts). newReport j k at m (needed m) v) p
+    -- where it has room its cell lies on the track
+    pub record-begins : (at : ℕ) (b : Bool) → need ≡ needed n → b ≡ fits at need → b ≡ true → at + 12 ≤ 4096
+    unfolding needed recordCells
+    record-begins at b q r e = omega (arith, fits-ends at need (sym r ∙ e), q)
+
+    pub record-told : (at : ℕ) (r : Report) → need ≡ needed n
+        → r ≡ reportOf (newTurn x (task (j .task .head) (at + 1) (On (Marker at)) 0) at n need (marker ∷ newRecord flag v)) → r ≡ reportOf (recordTurn x at flag)
+    unfolding recordTurn sight
+    record-told at r q f =
+        let told : Counts → ℕ → Report = λ m i. reportOf (newTurn x (task (j .task .head) (at + 1) (On (Marker at)) 0) at m i (marker ∷ newRecord flag v)) in
+        f ∙ ap (told n) q ∙ ap (λ (m : Counts). told m (needed m)) p
 
 -- ---- an update: whether the areas that it goes over are byte cells
 
@@ -101,69 +108,43 @@ module _ (t : List ℕ) (key : Bool) (c : ℕ) (n : Counts) (s : ℕ) (q : s ≡
       g ∙ ap (λ (a : Area). allRecorded t (areaIf (ltb 0 (n .dl)) a)) o
       ∙ sym (key-part ∙ ap (λ (z : Bool). both z (allRecorded t (areaIf (ltb 0 (n .dl)) (dataArea c n)))) e)
 
-module _ (t : List ℕ) (key : Bool) (j : Job) (b : Bool) (q : b ≡ allRecorded t (named (j .task .place) key true (j .counts))) (r : Report) where
-  pub over-fails : b ≡ false → r ≡ checkReport (j .position) (j .orders) Unreadable → r ≡ overReport key j t
-  unfolding overReport overReportBy
-  over-fails e f = f ∙ sym (second-picked _ _ _ (sym q ∙ e))
+module _ (t v : List ℕ) (key : Bool) (j : Job) (s : DoesWrite j (Write.Update key)) (b : Bool) (q : b ≡ allRecorded t (named (j .task .place) key true (j .counts))) (r : Report) where
+  abbrev y : Sight
+  y = sight (alone t) j v
 
-  pub over-ends : (s : ℕ) (x : Ending) → b ≡ true → s ≡ keySent key (j .counts) → x ≡ endingOf j
-      → r ≡ reportAt j (j .task) x (Transfer.Takes (s + j .counts .dl)) false → r ≡ overReport key j t
-  unfolding overReport overReportBy
-  over-ends s x e f g h =
-      h ∙ ap₂ (λ (y : Ending) (i : ℕ). reportAt j (j .task) y (Transfer.Takes (i + j .counts .dl)) false) g f ∙ sym (first-picked _ _ _ (sym q ∙ e))
+  seen : b ≡ y .recorded
+  seen = q ∙ recorded-is t v j (Write.Update key) s key refl
 
--- ---- the cells that are laid do not show
+  pub over-fails : b ≡ false → r ≡ checkReport (j .position) (j .orders) Unreadable → r ≡ reportOf (writeTurn (Write.Update key) y)
+  unfolding writeTurn updateTurn sight
+  over-fails e f = f ∙ sym (failed-by y Unreadable) ∙ ap reportOf (sym (second-picked _ _ _ (sym seen ∙ e)))
 
-told-pick : (b : Bool) (x y : Turn) (p q : Report) → reportOf x ≡ p → reportOf y ≡ q → pick b p q ≡ reportOf (pick b x y)
-told-pick true x y p q e f = sym e
-told-pick false x y p q e f = sym f
-
-module _ (x : Sight) where
-  told-home : reportAt (x .job) (x .job .task) Normal (Transfer.Takes 5) false ≡ reportOf (homeTurn x)
-  unfolding homeTurn transferOf
-  told-home = sym (ended x Normal (Takes 5) _ false)
-
-  told-new : (k : Task) (first : ℕ) (n : Counts) (need : ℕ) (v : List ℕ) → newReport (x .job) k first n need (x .sent) ≡ reportOf (newTurn x k first n need v)
-  unfolding newReport newTurn transferOf
-  told-new k first n need v =
-      let m : Moves = Takes (recordTakes (x .sent) n) in
-      let l : List Piece = piece x first (toEnd first v) ∷ [] in
-      told-pick (fits first need) (endTurnAt x k Normal m l false) (failTurn x NoRoom) _ _ (ended-at x Normal m l false k) (failed-by x NoRoom)
-
-  told-over : (key : Bool) → overReportBy key (x .job) (x .recorded) ≡ reportOf (updateTurn key x (x .job .task .place) (x .job .counts))
-  unfolding overReportBy updateTurn transferOf
-  told-over key =
-      let n : Counts = x .job .counts in
-      let c : ℕ = x .job .task .place in
-      let m : Moves = Takes (keySent key n + n .dl) in
-      let l : List Piece = overPiece x (keyArea c n) 0 (keySent key n) ++ overPiece x (dataArea c n) (keySent key n) (n .dl) in
-      let e : Ending = endingOf (x .job) in
-      told-pick (x .recorded) (endTurn x e m l false) (failTurn x Unreadable) _ _ (ended x e m l false) (failed-by x Unreadable)
+  pub over-ends : (i : ℕ) (z : Ending) → b ≡ true → i ≡ keySent key (j .counts) → z ≡ endingOf j
+      → r ≡ reportAt j (j .task) z (Transfer.Takes (i + j .counts .dl)) false → r ≡ reportOf (writeTurn (Write.Update key) y)
+  unfolding writeTurn updateTurn sight transferOf
+  over-ends i z e f g h =
+      h ∙ ap₂ (λ (w : Ending) (k : ℕ). reportAt j (j .task) w (Transfer.Takes (k + j .counts .dl)) false) g f
+      ∙ sym (ended y (endingOf j) (Takes (keySent key (j .counts) + j .counts .dl)) _ false) ∙ ap reportOf (sym (first-picked _ _ _ (sym seen ∙ e)))
 
 -- ---- by the write
 
 module _ (t v : List ℕ) (j : Job) (w : Write) (s : DoesWrite j w) (r : Report) where
-  abbrev x : Sight
-  x = sight (alone t) j v
+  told-by : (z : Write) → w ≡ z → r ≡ reportOf (writeTurn z (x t j v)) → r ≡ reportOf (writeTurn w (x t j v))
+  told-by z e f = f ∙ ap (λ (u : Write). reportOf (writeTurn u (x t j v))) (sym e)
 
-  told-by : (y : Write) → w ≡ y → r ≡ reportOf (writeTurn y x) → r ≡ reportOf (writeTurn w x)
-  told-by y e f = f ∙ ap (λ (z : Write). reportOf (writeTurn z x)) (sym e)
+  pub tells-home : w ≡ Write.HomeAddress → r ≡ reportAt j (j .task) Normal (Transfer.Takes 5) false → r ≡ reportOf (writeTurn w (x t j v))
+  unfolding sight writeTurn homeTurn transferOf
+  tells-home e f = told-by Write.HomeAddress e (f ∙ sym (ended (x t j v) Normal (Takes 5) _ false))
 
-  pub tells-home : w ≡ Write.HomeAddress → r ≡ reportAt j (j .task) Normal (Transfer.Takes 5) false → r ≡ reportOf (writeTurn w x)
-  unfolding sight writeTurn
-  tells-home e f = told-by Write.HomeAddress e (f ∙ told-home x)
-
-  pub tells-r0 : (home flag : ℕ) → w ≡ Write.R0 → home ≡ getD t 0 0 % 256 → flag ≡ flagOfR0 home → r ≡ r0Report j flag v → r ≡ reportOf (writeTurn w x)
-  unfolding sight writeTurn r0Turn r0Report
-  tells-r0 home flag e p q f =
-      told-by Write.R0 e (f ∙ told-new x _ _ _ _ _ ∙ ap (λ (i : ℕ). reportOf (r0Turn x i)) (flag-r0 t v j w s e home flag p q))
+  pub tells-r0 : (home flag : ℕ) → w ≡ Write.R0 → home ≡ getD t 0 0 % 256 → flag ≡ flagOfR0 home → r ≡ reportOf (r0Turn (x t j v) flag)
+      → r ≡ reportOf (writeTurn w (x t j v))
+  unfolding writeTurn
+  tells-r0 home flag e p q f = told-by Write.R0 e (f ∙ ap (λ (i : ℕ). reportOf (r0Turn (x t j v) i)) (flag-r0 t v j w s e home flag p q))
 
   pub tells-record : (at flag : ℕ) → w ≡ Write.CountKeyData → at ≡ endBy (j .task .place) (j .counts) → flag ≡ flagAfter (j .counts .flag)
-      → r ≡ recordReport j at flag v → r ≡ reportOf (writeTurn w x)
-  unfolding sight writeTurn recordTurn recordReport
-  tells-record at flag e p q f =
-      told-by Write.CountKeyData e (f ∙ told-new x _ _ _ _ _ ∙ ap₂ (λ (i k : ℕ). reportOf (recordTurn x i k)) p q)
+      → r ≡ reportOf (recordTurn (x t j v) at flag) → r ≡ reportOf (writeTurn w (x t j v))
+  unfolding sight writeTurn
+  tells-record at flag e p q f = told-by Write.CountKeyData e (f ∙ ap₂ (λ (i k : ℕ). reportOf (recordTurn (x t j v) i k)) p q)
 
-  pub tells-over : (key : Bool) → w ≡ Write.Update key → r ≡ overReport key j t → r ≡ reportOf (writeTurn w x)
-  unfolding sight writeTurn overReport
-  tells-over key e f = told-by (Write.Update key) e (f ∙ ap (overReportBy key j) (recorded-is t v j w s key e) ∙ told-over x key)
+  pub tells-over : (key : Bool) → w ≡ Write.Update key → r ≡ reportOf (writeTurn (Write.Update key) (x t j v)) → r ≡ reportOf (writeTurn w (x t j v))
+  tells-over key e f = told-by (Write.Update key) e f

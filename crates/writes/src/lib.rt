@@ -12,8 +12,8 @@ use turn::Report;
 use turn::Transfer;
 ghost use mathlib.Core.Path.{_≡_};
 ghost use mathlib.Core.Bool.{true, false};
-ghost use mathlib.Core.List.{_∷_};
-ghost use Prim.Native.Nat.{_<_};
+ghost use mathlib.Core.List.{List, _∷_};
+ghost use Prim.Native.Nat.{ℕ, _<_};
 ghost use Rattle.cells.specs.Cells.{padded, overlay, marker};
 ghost use Rattle.house_check.specs.Check as House;
 ghost use Rattle.areas.specs.Areas.{homeBytes, r0First, recordCells, needed};
@@ -22,9 +22,9 @@ ghost use Rattle.room.specs.Room.{fits};
 ghost use Rattle.recording.specs.Recording.{Lies};
 ghost use Rattle.format.specs.Format.{newCounts, newRecord};
 ghost use Rattle.turn.specs.Turn.{alone, lay, isCheck, reportOf};
-ghost use Rattle.command.specs.Command.{areaIf, named, allRecorded, sight, recordTakes, keySent, toEnd, writeTurn};
+ghost use Rattle.command.specs.Command.{areaIf, named, allRecorded, sight, recordTakes, keySent, toEnd, r0Turn, recordTurn, writeTurn};
 ghost use Rattle.ending.specs.Ending.{checkReport};
-ghost use Rattle.writes.specs.Writes.{DoesWrite, goneOver, updated, Over, r0Report, recordReport, overReport};
+ghost use Rattle.writes.specs.Writes.{DoesWrite, goneOver, updated, Over};
 
 const HOME_BYTES: usize = 5;
 // The cell behind the home address, where R0 begins.
@@ -60,7 +60,7 @@ fn fail(j: Job, row: Row) -> Report
 
 // Write R0.
 fn write_r0(flag: u8, j: Job, sent: &[u8]) -> Report
-    ensures { λ r. ⌜ r ≡ r0Report j flag (now (sent .entry)) ⌝ }
+    ensures { λ r. ⌜ ((t : List ℕ) → r ≡ reportOf (r0Turn (sight (alone t) j (now (sent .entry))) flag)) ⌝ }
 {
     let n = format::new_counts(flag, sent);
     if !room::has_room(R0_FIRST as u32, areas::record_cells(n)) {
@@ -72,7 +72,7 @@ fn write_r0(flag: u8, j: Job, sent: &[u8]) -> Report
 
 // Write Count Key Data, from a cell on, which can lie far past the track.
 fn write_after(at: u32, flag: u8, j: Job, sent: &[u8]) -> Report
-    ensures { λ r. ⌜ r ≡ recordReport j at flag (now (sent .entry)) ⌝ }
+    ensures { λ r. ⌜ ((t : List ℕ) → r ≡ reportOf (recordTurn (sight (alone t) j (now (sent .entry))) at flag)) ⌝ }
 {
     let n = format::new_counts(flag, sent);
     if !room::has_room(at, areas::cells_needed(n)) {
@@ -108,7 +108,8 @@ fn are_recorded(track: &[u16], key: bool, c: u16, n: Counts) -> bool
 
 // Write Data, and Write Key and Data.
 fn write_over(key: bool, j: Job, track: &[u16]) -> Report
-    ensures { λ r. ⌜ r ≡ overReport key j (now (track .entry)) ⌝ }
+    requires { ⌜ DoesWrite j (Write.Update key) ⌝ }
+    ensures { λ r. ⌜ ((v : List ℕ) → r ≡ reportOf (writeTurn (Write.Update key) (sight (alone (now (track .entry))) j v))) ⌝ }
 {
     let n = j.counts;
     if !are_recorded(track, key, j.task.place, n) {

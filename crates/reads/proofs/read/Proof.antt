@@ -1,11 +1,9 @@
 -- The bytes are as many as the counts say.
-use Rattle.reads.specs.Inside.{readReport}
 use borrow.Author.Needs.{needs}
 use Rattle.reads.proofs.read.Statement.{statement}
 use Rattle.reads.proofs.read.Tie as tie
 
 returns : tie.Need-returns
-unfolding readReport
 returns c = rw (c .ended .ensures, c .before .before .before .ending-of .ensures, c .before .many-given .ensures)
 
 pub read-spec : {M : Type 1} → statement M

@@ -1,4 +1,5 @@
 -- No room ends it; else it ends after the new record's marker, and where there is room that lies on the track.
+use mathlib.Core.List.{[]}
 use native.Mathlib.Omega.{arith}
 use borrow.Author.Tests.{not-true, not-false}
 use Rattle.writes.proofs.Report.{new-fails, new-ends, record-begins, record-told}
@@ -15,24 +16,24 @@ use Rattle.writes.proofs.record_takes.Reads as record-takes-reads
 returns : tie.Need-returns
 returns c =
     let h = c .before .before in
-    record-told _ _ _ _ (h .before .before .new-counts .ensures) _ _ _ (h .before .cells-needed .ensures) (new-fails _ _ _ _ _ _ _ _ (h .has-room .ensures) (not-true _ (c .before .if1 .taken)) (c .fail .ensures))
+    λ t. record-told t _ _ _ _ (h .before .before .new-counts .ensures) _ _ _ (h .before .cells-needed .ensures) (new-fails t _ _ _ _ _ _ _ _ _ (h .has-room .ensures) (not-true _ (c .before .if1 .taken)) (c .fail .ensures))
 
 cast-p : tie.Need-cast-p
 cast-p c =
     let h = c .before in
-    let begins = record-begins (h .before .before .before .before .args .j) _ _ _ (h .before .before .new-counts .ensures) _ _ _ (h .before .cells-needed .ensures) (h .has-room .ensures) (not-false _ (c .if1 .left)) in
+    let begins = record-begins [] (h .before .before .before .before .args .j) _ _ _ (h .before .before .new-counts .ensures) _ _ _ (h .before .cells-needed .ensures) (h .has-room .ensures) (not-false _ (c .if1 .left)) in
     record { fits = omega (arith, begins) }
 
 add-t14 : tie.Need-add-t14
 add-t14 c =
     let h = c .before .before in
-    let begins = record-begins (h .before .before .before .before .args .j) _ _ _ (h .before .before .new-counts .ensures) _ _ _ (h .before .cells-needed .ensures) (h .has-room .ensures) (not-false _ (c .before .if1 .left)) in
+    let begins = record-begins [] (h .before .before .before .before .args .j) _ _ _ (h .before .before .new-counts .ensures) _ _ _ (h .before .cells-needed .ensures) (h .has-room .ensures) (not-false _ (c .before .if1 .left)) in
     record { fits = omega (arith, begins) }
 
 returns-2 : tie.Need-returns-2
 returns-2 c =
     let h = c .before .before .before .before in
-    record-told _ _ _ _ (h .before .before .new-counts .ensures) _ _ _ (h .before .cells-needed .ensures) (new-ends _ _ _ _ _ _ _ _ (h .has-room .ensures) _ (not-false _ (c .before .before .before .if1 .left)) (c .before .record-takes .ensures) (c .ended-at .ensures))
+    λ t. record-told t _ _ _ _ (h .before .before .new-counts .ensures) _ _ _ (h .before .cells-needed .ensures) (new-ends t _ _ _ _ _ _ _ _ _ (h .has-room .ensures) _ (not-false _ (c .before .before .before .if1 .left)) (c .before .record-takes .ensures) (c .ended-at .ensures))
 
 pub write-after-spec : {M : Type 1} → statement M
 write-after-spec =

@@ -10,12 +10,12 @@ use Rattle.writes.proofs.fail.Reads as fail-reads
 use Rattle.writes.proofs.key_sent.Reads as key-sent-reads
 
 returns : tie.Need-returns
-returns c = over-fails _ _ _ _ (c .before .before .are-recorded .ensures) _ (not-true _ (c .before .if1 .taken)) (c .fail .ensures)
+returns c = λ v. over-fails _ v _ _ (c .before .before .before .before .before .pre) _ (c .before .before .are-recorded .ensures) _ (not-true _ (c .before .if1 .taken)) (c .fail .ensures)
 
 returns-2 : tie.Need-returns-2
 returns-2 c =
     let k = c .before .before .before in
-    over-ends _ _ _ _ (k .before .before .are-recorded .ensures) _ _ _ (not-false _ (k .before .if1 .left)) (k .key-sent .ensures) (c .before .ending-of .ensures) (c .ended .ensures)
+    λ v. over-ends _ v _ _ (k .before .before .before .before .before .pre) _ (k .before .before .are-recorded .ensures) _ _ _ (not-false _ (k .before .if1 .left)) (k .key-sent .ensures) (c .before .ending-of .ensures) (c .ended .ensures)
 
 pub write-over-spec : {M : Type 1} → statement M
 write-over-spec =

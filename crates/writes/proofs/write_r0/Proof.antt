@@ -14,12 +14,12 @@ use Rattle.writes.proofs.record_takes.Reads as record-takes-reads
 returns : tie.Need-returns
 returns c =
     let h = c .before .before in
-    r0-told _ _ _ _ (h .before .before .new-counts .ensures) _ _ (h .before .record-cells .ensures .0) (new-fails _ _ _ _ _ _ _ _ (h .has-room .ensures) (not-true _ (c .before .if1 .taken)) (c .fail .ensures))
+    λ t. r0-told t _ _ _ _ (h .before .before .new-counts .ensures) _ _ (h .before .record-cells .ensures .0) (new-fails t _ _ _ _ _ _ _ _ _ (h .has-room .ensures) (not-true _ (c .before .if1 .taken)) (c .fail .ensures))
 
 returns-2 : tie.Need-returns-2
 returns-2 c =
     let h = c .before .before .before in
-    r0-told _ _ _ _ (h .before .before .new-counts .ensures) _ _ (h .before .record-cells .ensures .0) (new-ends _ _ _ _ _ _ _ _ (h .has-room .ensures) _ (not-false _ (c .before .before .if1 .left)) (c .before .record-takes .ensures) (c .ended .ensures))
+    λ t. r0-told t _ _ _ _ (h .before .before .new-counts .ensures) _ _ (h .before .record-cells .ensures .0) (new-ends t _ _ _ _ _ _ _ _ _ (h .has-room .ensures) _ (not-false _ (c .before .before .if1 .left)) (c .before .record-takes .ensures) (c .ended .ensures))
 
 pub write-r0-spec : {M : Type 1} → statement M
 write-r0-spec =
