@@ -12,7 +12,7 @@ use Rattle.cells.specs.Cells.{both, either, part, padded, overlay, trackCells}
 use Rattle.cells.proofs.Laws.{length-overlay}
 use Rattle.cells.proofs.Tests.{both-of}
 use Rattle.house_check.specs.Check as House
-use Rattle.areas.specs.declared.{House.Area, Counts.Counts}
+use Rattle.areas.specs.declared.{Area.Area, Counts.Counts}
 use Rattle.areas.specs.Areas.{homeBytes, r0First, keyArea, dataArea, endBy, needed, flagAfter}
 use Rattle.room.specs.Room.{fits}
 use Rattle.room.proofs.Laws.{fits-ends}

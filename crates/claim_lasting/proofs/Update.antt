@@ -12,7 +12,7 @@ use Rattle.cells.specs.Cells.{pick, part, padded, overlay}
 use Rattle.cells.proofs.Laws.{length-padded}
 use Rattle.cells.proofs.Numbers.{Bytes}
 use Rattle.house_check.specs.Check as House
-use Rattle.areas.specs.declared.{House.Area, Counts.Counts}
+use Rattle.areas.specs.declared.{Area.Area, Counts.Counts}
 use Rattle.areas.specs.Areas.{countsAt, keyArea, dataArea, areaCells}
 use Rattle.areas.proofs.Laws.{some-key}
 use Rattle.hunt.specs.declared.{Spot.Spot}

@@ -13,7 +13,7 @@ use Rattle.cells.specs.Cells.{pick, both, part, padded, overlay, trackCells}
 use Rattle.cells.proofs.Laws.{length-overlay}
 use Rattle.cells.proofs.Tests.{first-of, second-of}
 use Rattle.house_check.specs.Check as House
-use Rattle.areas.specs.declared.{House.Area, Counts.Counts}
+use Rattle.areas.specs.declared.{Area.Area, Counts.Counts}
 use Rattle.areas.specs.Areas.{keyArea, dataArea}
 use Rattle.pack.specs.declared.{Head.Head}
 use Rattle.command.specs.Command.{areaIf, named, Sight, piece, toEnd, overPiece, keySent, allRecorded}
