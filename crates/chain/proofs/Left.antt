@@ -7,6 +7,7 @@ use native.Mathlib.Nat.{add-zero}
 use native.Mathlib.Omega.{arith}
 use lib.ListN.{length, getD}
 use lib.Dec.{ltb}
+use borrow.Author.Tests.{not-true}
 use Rattle.cells.specs.Cells.{pick, both, padded, trackCells, marker, marks}
 use Rattle.cells.proofs.Marks.{getD-marks, mark-here}
 use Rattle.cells.proofs.Tests.{pick-all, first-of, second-of}
@@ -37,7 +38,8 @@ use Rattle.table.specs.declared.{Control.Control, Write.Write, Act.Act, Rule.Ru
 use Rattle.table.specs.Table.{ruleOf, isHome, controls, searches, reads, writes}
 use Rattle.table.proofs.Laws.{every, each, of-every}
 use Rattle.command.specs.declared.Plan.the-variants.{Refuses, Works}
-use Rattle.command.proofs.Plans.{selectsOne, not-true, isR0, Leaves, NoMarker, TaskOn, PlanOn, PlanFree, plan-on, none-free, r0-free}
+use Rattle.command.proofs.Planned.{takesRecord, isR0}
+use Rattle.command.proofs.Plans.{selectsOne, Leaves, NoMarker, TaskOn, PlanOn, PlanFree, plan-on, none-free, r0-free}
 use Rattle.command.proofs.Pieces.{PiecesOn, length-to-end, format-is, update-on}
 use Rattle.chain.specs.Legal.{positionFits, ordersFit}
 use Rattle.chain.proofs.Fits.{stands-on, place-in, position-fits, mask-legal, selected-on, ordered-fit}
@@ -61,7 +63,7 @@ unfoldable tame : Rule → Bool
 tame r = both (selectsOne (r .aim) (r .selects)) (steady (r .act) r)
 
 tame-rule : (c : ℕ) → tame (ruleOf c) ≡ true
-unfolding tame selectsOne steady steadyWrite isR0 every each controls searches reads writes
+unfolding tame selectsOne takesRecord steady steadyWrite isR0 every each controls searches reads writes
 tame-rule c = of-every tame refl c
 
 -- what is selected where a command acts, by what it does

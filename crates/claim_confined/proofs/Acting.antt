@@ -25,22 +25,12 @@ use Rattle.table.specs.Table.{ruleOf, controls, searches, reads, writes}
 use Rattle.table.proofs.Laws.{every, each, of-every}
 use Rattle.turn.specs.Turn.{Tracks, TrackArea, Turn, checkTurn}
 use Rattle.command.specs.declared.Plan.the-variants.{Refuses, Works}
-use Rattle.command.proofs.Plans.{isR0}
+use Rattle.command.proofs.Planned.{isR0, isSelected}
 use Rattle.claim_frame.specs.Frame.{planHead}
 use Rattle.claim_frame.proofs.Here.{plans-here}
 use Rattle.claim_confined.specs.Confined.{bars}
 
 -- ---- what the rows of the writes have in common: 15 takes R0; 1D, 05 and 0D the record selected, whose count they read
-
-unfoldable pub isSelected : Aim → Bool
-isSelected Aim.Stays = false
-isSelected Aim.HomeAddress = false
-isSelected Aim.R0 = false
-isSelected Aim.NextId = false
-isSelected Aim.Next = false
-isSelected Aim.NextForData = false
-isSelected Aim.NextForKey = false
-isSelected Aim.Selected = true
 
 unfoldable pub isCount : Names → Bool
 isCount Names.Nothing = false

@@ -25,11 +25,12 @@ use Rattle.format.specs.Format.{newCounts}
 use Rattle.table.specs.declared.{Write.Write, Act.Act, Rule.Rule}
 use Rattle.table.specs.Table.{ruleOf}
 use Rattle.command.specs.declared.Plan.the-variants.{Refuses, Works}
+use Rattle.command.proofs.Planned.{isSelected}
 use Rattle.channel.specs.Channel.{bytesMoved}
 use Rattle.claim_confined.specs.Confined as Confined
 use Rattle.claim_confined.specs.Confined.{bars, hasRoom, NoRowBefore, RoomKept}
 use Rattle.claim_confined.proofs.Acting as Acting
-use Rattle.claim_confined.proofs.Acting.{isSelected, onSelection, aptWrite, apt-write, bars-not, Acting, acting-takes, aimed-zero, aimed-selected, obeys-all}
+use Rattle.claim_confined.proofs.Acting.{onSelection, aptWrite, apt-write, bars-not, Acting, acting-takes, aimed-zero, aimed-selected, obeys-all}
 use Rattle.claim_confined.proofs.Commands.{nothing-laid}
 
 -- a new record is as long with one flag as with another

@@ -1,5 +1,4 @@
 -- Laws of damage.
 pub mod Areas
 pub mod Hurts
-pub mod Planned
 pub mod Struck

@@ -2,13 +2,13 @@
 -- it. Why: the areas that it reads are the tracks' own, the home address or those of a record that is there, so those that are not hit have their cells.
 use Prim.Native.Nat.{ℕ}
 use mathlib.Core.Path.{_≡_, refl, sym, ap, _∙_}
-use mathlib.Core.Bool.{Bool, true, false, true≢false, false≢true}
+use mathlib.Core.Bool.{Bool, true, false, not, true≢false, false≢true}
 use mathlib.Core.List.{List, [], _∷_, _++_}
 use mathlib.Core.Logic.{inl, inr}
 use native.Mathlib.Omega.{arith}
 use lib.Dec.{ltb}
-use borrow.Author.Tests.{ltb-true}
-use Rattle.table.specs.Table.{isWrite, ruleOf}
+use borrow.Author.Tests.{ltb-true, not-true}
+use Rattle.table.specs.Table.{isWrite, ruleOf, controls, searches, reads, writes}
 use Rattle.cells.specs.Cells.{either, marks}
 use Rattle.cells.proofs.Tests.{pick-all, second-of}
 use Rattle.areas.specs.declared.{Area.Area, Counts.Counts, CountRead.CountRead}
@@ -16,11 +16,13 @@ use Rattle.areas.specs.Areas.{readable, rowOf, countArea, countsAt, readCount, 
 use Rattle.hunt.specs.declared.{Spot.Spot}
 use Rattle.hunt.specs.Hunt.{countFirst}
 use Rattle.pack.specs.declared.{Head.Head, Shape.Shape}
-use Rattle.held.specs.declared.{Position.Position, Orders.Orders}
+use Rattle.held.specs.declared.{Selection.Selection, Position.Position, Orders.Orders}
 use Rattle.command.specs.Command.{areaIf, named, namedBy, SelectedOn, marksOf, onHead, areasOf, planReads, command}
 use Rattle.table.specs.declared.{Names.Names, Rule.Rule}
+use Rattle.table.proofs.Laws.{each, every, of-every}
 use Rattle.turn.specs.Turn.{Tracks, TrackArea, checkTurn}
 use Rattle.command.specs.declared.{Plan.Plan}
+use Rattle.command.proofs.Planned.{takesRecord, Planned, refuses, stays, home, takes, plan-is}
 use Rattle.claim_frame.specs.Frame.{AllSame, Breaks, ReadsUnder}
 use Rattle.claim_frame.proofs.Turns.{command-reads}
 use Rattle.claim_frame.proofs.Kept.{still-kept}
@@ -28,10 +30,22 @@ use Rattle.claim_frame.proofs.Broken.{command-broken}
 use Rattle.claim_frame.proofs.Here.{reads-here}
 use Rattle.claim_damage.specs.Damage.{IsRecord, Own, ownHome, ownCount, ownKey, ownData, any}
 use Rattle.claim_damage.proofs.Hurts.{Hurt}
-use Rattle.claim_damage.proofs.Planned.{takesRecord, namesRecord, names-none, Planned, refuses, stays, home, takes, plan-is}
 
 abbrev pub lies : Head → Area → TrackArea
 lies h a = record { head = h; area = a }
+
+-- ---- a command that takes no record names none: a test of every row of the table
+
+unfoldable namesRecord : Names → Bool
+namesRecord Names.Nothing = false
+namesRecord Names.HomeAddress = false
+namesRecord (Names.Count key body) = true
+
+names-none : (code : ℕ) → takesRecord (ruleOf code .aim) ≡ false → namesRecord (ruleOf code .names) ≡ false
+unfolding every each controls searches reads writes takesRecord namesRecord
+names-none code e =
+    let t = of-every (λ (r : Rule). either (takesRecord (r .aim)) (not (namesRecord (r .names)))) refl code in
+    not-true _ (sym (ap (λ (b : Bool). either b (not (namesRecord (ruleOf code .names)))) e) ∙ t)
 
 -- ---- what a command reads is the tracks' own. A count that is not readable names nothing, so this holds of any tracks
 
@@ -75,18 +89,18 @@ module _ (t : Tracks) (h : Head) where
   own-bare Names.HomeAddress c e = (ownHome, tt)
   own-bare (Names.Count key body) c e = absurd (true≢false e)
 
-own-plan : (t : Tracks) (r : Rule) (s : Position) (p : Plan) → (takesRecord (r .aim) ≡ false → namesRecord (r .names) ≡ false)
-    → Planned (marks (t (s .head))) r s p → OwnAll t (planReads t r p)
-unfolding planReads
-own-plan t r s p e (refuses row) = tt
-own-plan t r s p e (stays k) = own-bare t (s .head) (r .names) _ (e k)
-own-plan t r s p e (home k) = own-bare t (s .head) (r .names) _ (e k)
-own-plan t r s p e (takes spot f n k) = own-record t (s .head) spot (r .names) f
+own-plan : (t : Tracks) (r : Rule) (s : Position) (x : Selection) (p : Plan) → (takesRecord (r .aim) ≡ false → namesRecord (r .names) ≡ false)
+    → SelectedOn (marks (t (s .head))) x → Planned (marks (t (s .head))) r s x (r .aim) p → OwnAll t (planReads t r p)
+unfolding planReads takesRecord
+own-plan t r s x p e sel (refuses row) = tt
+own-plan t r s x p e sel (stays k) = own-bare t (s .head) (r .names) _ (e (ap takesRecord k))
+own-plan t r s x p e sel (home k) = own-bare t (s .head) (r .names) _ (e (ap takesRecord k))
+own-plan t r s x p e sel (takes spot f n k) = own-record t (s .head) spot (r .names) (f .fits sel)
 
 pub reads-own : (g : Shape) (t : Tracks) (s : Position) (o : Orders) (code : ℕ) (v : List ℕ) → SelectedOn (marks (t (s .head))) (o .selection)
     → OwnAll t (command g t s o code v .reads)
 unfolding marksOf
-reads-own g t s o code v sel = rw (command-reads g t s o code v) (own-plan t (ruleOf code) s _ (names-none code) (plan-is (marksOf t) (ruleOf code) s o sel))
+reads-own g t s o code v sel = rw (command-reads g t s o code v) (own-plan t (ruleOf code) s _ _ (names-none code) sel (plan-is (marksOf t) (ruleOf code) s o))
 
 -- ---- areas that are hit, and those that are not
 

@@ -1,86 +1,37 @@
 -- Today a command works under the head where it stands: it sees no other track of the cylinder, and lays no cell there. Why: every plan's task has that
 -- head, and a plan sees of a cylinder what is under its head.
-use Prim.Native.Nat.{ℕ, _+_}
+use Prim.Native.Nat.{ℕ}
 use mathlib.Core.Path.{_≡_, refl, sym, ap, _∙_, subst}
 use mathlib.Core.Bool.{Bool}
 use mathlib.Core.List.{List, [], _∷_}
-use lib.Dec.{ltb}
-use Rattle.cells.specs.Cells.{pick, both}
-use Rattle.cells.proofs.Tests.{pick-all}
+use Rattle.cells.specs.Cells.{pick}
 use Rattle.rows.specs.declared.{Row.Row}
-use Rattle.mask.specs.Mask.{barsSeek, barsWrite}
 use Rattle.areas.specs.declared.{Area.Area}
 use Rattle.areas.specs.Areas.{areaCells, homeArea, countArea, readCount}
-use Rattle.hunt.specs.declared.{Spot.Spot, Next.Next}
 use Rattle.pack.specs.declared.{Head.Head, Shape.Shape}
 use Rattle.held.specs.declared.{Selection.Selection, Position.Position, Orders.Orders}
-use Rattle.held.specs.declared.Selection.the-variants.{Nothing, On}
-use Rattle.command.specs.Command.{namedBy, mostTally, Marks, marksOf, licensed, task, tallies, onRecord, onNext, onSelected, toNext, toServed, aimed, unlessBarred, planOf, onHead, areasOf, planReads, ruleTurn, command}
-use Rattle.table.specs.declared.{Bar.Bar, Aim.Aim, Names.Names, Rule.Rule}
+use Rattle.command.specs.Command.{namedBy, Marks, marksOf, licensed, toNext, toServed, aimed, unlessBarred, planOf, onHead, areasOf, planReads, ruleTurn, command}
+use Rattle.table.specs.declared.{Aim.Aim, Names.Names, Rule.Rule}
 use Rattle.table.specs.Table.{ruleOf}
 use Rattle.turn.specs.Turn.{Tracks, alone, TrackArea}
 use Rattle.command.specs.declared.{Plan.Plan}
 use Rattle.command.specs.declared.Plan.the-variants.{Refuses, Works}
+use Rattle.command.proofs.Planned.{Planned, refuses, stays, home, takes, plan-is}
 use Rattle.claim_frame.specs.Frame.{AllSame, planHead, ReadsUnder, LaysUnder}
 use Rattle.claim_frame.proofs.Turns.{planTurn, command-reads, command-lays}
 use Rattle.claim_frame.proofs.Kept.{Agrees, plan-kept}
 
 -- ---- a plan's head
 
-module _ (r : Rule) (m : Marks) (s : Position) (o : Orders) where
-  record Here (p : Plan) : Type 0 where
-    is : planHead s p ≡ s .head
+planned-here : (m : List Bool) (r : Rule) (s : Position) (x : Selection) (a : Aim) (p : Plan) → Planned m r s x a p → planHead s p ≡ s .head
+unfolding planHead
+planned-here m r s x a p (refuses row) = refl
+planned-here m r s x a p (stays e) = refl
+planned-here m r s x a p (home e) = refl
+planned-here m r s x a p (takes spot f n h) = refl
 
-  refuses-here : (row : Row) → Here (Refuses row)
-  unfolding planHead
-  refuses-here row = record { is = refl }
-
-  works-here : (place : ℕ) (x : Selection) (n : ℕ) → Here (Works (task (s .head) place x n))
-  unfolding planHead
-  works-here place x n = record { is = refl }
-
-  record-here : (spot : Spot) (n : ℕ) → Here (onRecord r o (s .head) spot n)
-  unfolding onRecord
-  record-here spot n = pick-all Here (both (tallies (r .act)) (ltb mostTally (o .tally + n))) (refuses-here _) (works-here _ _ _)
-
-  next-here : (x : Next) → Here (onNext r o (s .head) x)
-  unfolding onNext
-  next-here (Next.ComesTo spot n) = record-here spot n
-  next-here Next.NoMarker = refuses-here _
-
-  selected-here : (x : Selection) (other : Plan) → Here other → Here (onSelected r o (s .head) x other)
-  unfolding onSelected
-  selected-here Nothing other e = e
-  selected-here (On spot) other e = record-here spot 0
-
-  to-next-here : Here (toNext r m s o)
-  unfolding toNext
-  to-next-here = next-here _
-
-  served-here : (serves : Bool) → Here (toServed r m s o serves)
-  unfolding toServed
-  served-here serves = pick-all Here serves (selected-here (o .selection) _ to-next-here) to-next-here
-
-  aimed-here : (a : Aim) → Here (aimed r m s o a)
-  unfolding aimed
-  aimed-here Aim.Stays = works-here _ _ _
-  aimed-here Aim.HomeAddress = works-here _ _ _
-  aimed-here Aim.R0 = record-here Spot.R0 0
-  aimed-here Aim.NextId = next-here _
-  aimed-here Aim.Next = to-next-here
-  aimed-here Aim.NextForData = served-here _
-  aimed-here Aim.NextForKey = served-here _
-  aimed-here Aim.Selected = selected-here (o .selection) _ (refuses-here _)
-
-  barred-here : (b : Bar) (n : ℕ) (x : Plan) → Here x → Here (unlessBarred b n x)
-  unfolding unlessBarred
-  barred-here Bar.Nothing n x e = e
-  barred-here (Bar.Seeks k) n x e = pick-all Here (barsSeek n k) (refuses-here _) e
-  barred-here (Bar.Writes k) n x e = pick-all Here (barsWrite n k) (refuses-here _) e
-
-  pub plans-here : planHead s (planOf r m s o) ≡ s .head
-  unfolding planOf
-  plans-here = pick-all Here (licensed (r .licence) o) (barred-here (r .bar) (o .mask) _ (aimed-here (r .aim))) (refuses-here _) .is
+pub plans-here : (r : Rule) (m : Marks) (s : Position) (o : Orders) → planHead s (planOf r m s o) ≡ s .head
+plans-here r m s o = planned-here (m (s .head)) r s (o .selection) (r .aim) _ (plan-is m r s o)
 
 -- ---- of the markers, too, only those under the head are seen
 

@@ -28,19 +28,19 @@ use Rattle.turn.specs.declared.Ending.the-variants.{Normal, Exception, Check}
 use Rattle.turn.specs.Turn.{positionAt, after, ordersOf, Tracks, TrackArea, Piece, Moves, Takes, Turn, lay, checkTurn}
 use Rattle.command.specs.declared.{Got.Got, Task.Task, Plan.Plan}
 use Rattle.command.specs.declared.Got.the-variants.{Sees, Fails}
-use Rattle.command.specs.Command.{seenWith, noCounts, named, homePlace, SelectedOn, homeDone, licensed, task, tallies, onRecord, aimed, unlessBarred, planOf, onHead, areasOf, allRead, countsIn, gets, seenOf, goesOver, writesOver, allRecorded, Sight, areasRead, sight, failTurn, endTurnAt, endTurn, endingOf, piece, toEnd, homeTurn, recordTakes, newTurn, r0Turn, recordTurn, overPiece, keySent, updateTurn, writeTurn, actTurn, jobOf, hasRead, readyBy, planReads, readyTurn, ruleTurn, command, positionAfter, ordersAfter}
 use Rattle.format.specs.Format.{newCounts, newRecord}
 use Rattle.format.proofs.Laws.{formatted, length-area, length-new}
-use Rattle.table.specs.declared.{Licence.Licence, Write.Write, Act.Act, Rule.Rule}
+use Rattle.table.specs.declared.{Licence.Licence, Bar.Bar, Write.Write, Act.Act, Rule.Rule}
 use Rattle.table.specs.Table.{ruleOf, find, controls, searches, reads, writes}
 use Rattle.command.specs.declared.Plan.the-variants.{Refuses, Works}
+use Rattle.command.specs.Command.{marksOf, homeDone, licensed, task, homePlace, SelectedOn, tallies, onRecord, aimed, unlessBarred, named, onHead, areasOf, allRead, noCounts, countsIn, gets, seenWith, seenOf, goesOver, writesOver, allRecorded, Sight, areasRead, sight, failTurn, endTurnAt, endTurn, endingOf, piece, toEnd, homeTurn, recordTakes, newTurn, r0Turn, recordTurn, overPiece, keySent, updateTurn, writeTurn, actTurn, jobOf, hasRead, readyBy, planReads, readyTurn, ruleTurn, command, positionAfter, ordersAfter}
 use Rattle.command.proofs.Pieces.{format-is}
 use Rattle.sound.specs.Sound.{Sound}
 use Rattle.claim_damage.specs.Damage.{IsRecord}
-use Rattle.claim_lasting.specs.Lasting.{HomeOnly, Lasts, NewBack, ReadsBack, Took, Leaves, unchanged, written}
+use Rattle.claim_lasting.specs.Lasting.{HomeOnly, Lasts, NewBack, ReadsBack, Took, Permitted, Leaves, unchanged, written}
 use Rattle.claim_lasting.proofs.Format.{flag-of-r0, home-back, home-lasts, zero-back, zero-lasts, record-back, record-lasts}
 use Rattle.claim_lasting.proofs.Update.{updated, update-is, update-lasts, update-back}
-use Rattle.claim_lasting.proofs.Works.{OnSelected, Needs, write-turn}
+use Rattle.claim_lasting.proofs.Works.{permitted-plan, OnSelected, Needs, write-turn}
 
 -- ---- what is laid
 
@@ -48,19 +48,19 @@ not-check : (b : Bool) (row : Row) → pick b Exception Normal ≡ Check row →
 not-check true row e = let z : _≡_ {A = ℕ} 0 1 = cc in omega arith
 not-check false row e = let z : _≡_ {A = ℕ} 0 1 = cc in omega arith
 
-module _ (tr : Tracks) (s : Position) (o : Orders) (v : List ℕ) (long : length (tr (s .head)) ≡ trackCells) (b : Bytes v) where
+module _ (r : Rule) (tr : Tracks) (s : Position) (o : Orders) (v : List ℕ) (long : length (tr (s .head)) ≡ trackCells) (b : Bytes v) where
   abbrev t : List ℕ
   t = tr (s .head)
 
   abbrev Good : Write → Turn → Type 0
-  Good w x = Leaves w o v t x
+  Good w x = Leaves r w o v t x
 
   -- a row ended it
   ended : (w : Write) (l : List TrackArea) (row : Row) → Good w (checkTurn s o l row)
   unfolding checkTurn
   ended w l row = unchanged row refl refl
 
-  module _ (code : ℕ) (r : Rule) (k : Task) (n : Counts) (here : k .head ≡ s .head) where
+  module _ (permitted : Permitted r o) (code : ℕ) (k : Task) (n : Counts) (here : k .head ≡ s .head) where
     abbrev x : Sight
     x = sight tr (jobOf code r s o k n) v
 
@@ -73,7 +73,7 @@ module _ (tr : Tracks) (s : Position) (o : Orders) (v : List ℕ) (long : length
         → Lasts w t t′ → ReadsBack w (countFirst spot) v t t′ → Good w (endTurnAt x k′ (pick empty Exception Normal) m l false)
     unfolding endTurnAt
     did w spot took k′ empty m l t′ e p q =
-        written spot took (not-check empty) (subst (Lasts w t) (sym e) p) (subst (ReadsBack w (countFirst spot) v t) (sym e) q)
+        written permitted spot took (not-check empty) (subst (Lasts w t) (sym e) p) (subst (ReadsBack w (countFirst spot) v t) (sym e) q)
 
     home-good : Good Write.HomeAddress (homeTurn x)
     unfolding homeTurn endTurn piece sight lay Took Lasts ReadsBack
@@ -169,52 +169,65 @@ module _ (tr : Tracks) (s : Position) (o : Orders) (v : List ℕ) (long : length
 -- ---- the command
 
 -- the track left is soundly written if the track was
-left-sound : (w : Write) (o : Orders) (v t : List ℕ) (x : Turn) → (w ≡ Write.HomeAddress → ⊥) → Sound t → Leaves w o v t x → Sound (lay (x .lays) t)
+left-sound : (r : Rule) (w : Write) (o : Orders) (v t : List ℕ) (x : Turn) → (w ≡ Write.HomeAddress → ⊥) → Sound t → Leaves r w o v t x → Sound (lay (x .lays) t)
 unfolding Lasts lay
-left-sound w o v t x n S (unchanged row e q) = subst (λ (l : List Piece). Sound (lay l t)) (sym q) S
-left-sound Write.HomeAddress o v t x n S (written spot e g p q) = absurd (n refl)
-left-sound Write.R0 o v t x n S (written spot e g p q) = p
-left-sound Write.CountKeyData o v t x n S (written spot e g p q) = p S
-left-sound (Write.Update key) o v t x n S (written spot e g p q) = p S
+left-sound r w o v t x n S (unchanged row e q) = subst (λ (l : List Piece). Sound (lay l t)) (sym q) S
+left-sound r Write.HomeAddress o v t x n S (written a spot e g p q) = absurd (n refl)
+left-sound r Write.R0 o v t x n S (written a spot e g p q) = p
+left-sound r Write.CountKeyData o v t x n S (written a spot e g p q) = p S
+left-sound r (Write.Update key) o v t x n S (written a spot e g p q) = p S
 
 module _ (g : Shape) (t : Tracks) (s : Position) (o : Orders) (code : ℕ) (v : List ℕ) (bytes : Bytes v) (w : Write) (act : ruleOf code .act ≡ Act.Write w)
     (sel : SelectedOn (marks (t (s .head))) (o .selection)) where
-  pub writes-leave : length (t (s .head)) ≡ trackCells → Leaves w o v (t (s .head)) (command g t s o code v)
+  pub writes-leave : length (t (s .head)) ≡ trackCells → Leaves (ruleOf code) w o v (t (s .head)) (command g t s o code v)
   writes-leave long =
-      write-turn g t s o code v w act (Leaves w o v (t (s .head))) (ended t s o v long bytes w)
-      (λ k n here has. lays-good t s o v long bytes code (ruleOf code) k n here sel w act has)
+      write-turn g t s o code v w act (Leaves (ruleOf code) w o v (t (s .head))) (ended (ruleOf code) t s o v long bytes w)
+      (λ q k n here has. lays-good (ruleOf code) t s o v long bytes q code k n here sel w act has)
 
   -- every write but Write HA leaves a soundly written track soundly written, however it ends
   pub writes-sound : (w ≡ Write.HomeAddress → ⊥) → Sound (t (s .head)) → Sound (lay (command g t s o code v .lays) (t (s .head)))
-  writes-sound n S = left-sound w o v (t (s .head)) (command g t s o code v) n S (writes-leave (S .long))
+  writes-sound n S = left-sound (ruleOf code) w o v (t (s .head)) (command g t s o code v) n S (writes-leave (S .long))
 
 -- ---- Write HA, then Write R0: the track is soundly written, whatever it was, if the mask bars neither
 
 -- what ended normally was written
-normal-lasts : (w : Write) (o : Orders) (v t : List ℕ) (x : Turn) → x .ending ≡ Normal → Leaves w o v t x → Lasts w t (lay (x .lays) t)
-normal-lasts w o v t x e (unchanged row c q) = absurd (not-check false row (sym e ∙ c))
-normal-lasts w o v t x e (written spot took g p q) = p
+normal-lasts : (r : Rule) (w : Write) (o : Orders) (v t : List ℕ) (x : Turn) → x .ending ≡ Normal → Leaves r w o v t x → Lasts w t (lay (x .lays) t)
+normal-lasts r w o v t x e (unchanged row c q) = absurd (not-check false row (sym e ∙ c))
+normal-lasts r w o v t x e (written a spot took g p q) = p
 
 -- what such a write sees when it lays
 abbrev writeSight : Tracks → Position → Orders → ℕ → ℕ → Selection → List ℕ → Sight
 writeSight t s o code place x v = sight t (jobOf code (ruleOf code) s o (task (s .head) place x 0) noCounts) v
 
+permits : (o : Orders) → barsWrite (o .mask) HomeOrR0 ≡ false → (r : Rule) → r .bar ≡ Bar.Writes HomeOrR0 → licensed (r .licence) o ≡ true → Permitted r o
+unfolding unlessBarred
+permits o allowed r e l = record {
+  licence = l;
+  mask = λ p. ap (λ (b : Bar). unlessBarred b (o .mask) p) e ∙ second-picked (barsWrite (o .mask) HomeOrR0) (Refuses Row.WriteBarred) p allowed;
+}
+
 module _ (g : Shape) (t : Tracks) (s : Position) (o : Orders) (v : List ℕ) (allowed : barsWrite (o .mask) HomeOrR0 ≡ false) where
+  home-permitted : Permitted (ruleOf 0x19) o
+  unfolding licensed ruleOf find controls searches reads writes
+  home-permitted = permits o allowed (ruleOf 0x19) refl refl
+
   home-is : command g t s o 0x19 v ≡ homeTurn (writeSight t s o 0x19 homePlace Nothing v)
-  unfolding command ruleTurn planOf licensed unlessBarred aimed readyTurn readyBy hasRead gets areasOf countsIn allRead actTurn writeTurn ruleOf find controls searches reads writes
+  unfolding command ruleTurn aimed readyTurn readyBy hasRead gets areasOf countsIn allRead actTurn writeTurn ruleOf find controls searches reads writes
   home-is =
-      ap (λ (p : Plan). readyTurn g t s o v (planReads t (ruleOf 0x19) p) (readyBy t 0x19 (ruleOf 0x19) s o p))
-      (second-picked (barsWrite (o .mask) HomeOrR0) (Refuses Row.WriteBarred) (Works (task (s .head) homePlace Nothing 0)) allowed)
+      let r : Rule = ruleOf 0x19 in
+      ap (λ (p : Plan). readyTurn g t s o v (planReads t r p) (readyBy t 0x19 r s o p)) (permitted-plan r (marksOf t) s o home-permitted)
 
   module _ (before : licensed Licence.HomeAddress o ≡ true) (home : readable (t (s .head)) homeArea ≡ true) where
+    zero-permitted : Permitted (ruleOf 0x15) o
+    unfolding ruleOf find controls searches reads writes
+    zero-permitted = permits o allowed (ruleOf 0x15) refl before
+
     zero-is : command g t s o 0x15 v ≡ r0Turn (writeSight t s o 0x15 r0First (On Spot.R0) v) (flagOfR0 (homeFlag (t (s .head))))
-    unfolding command ruleTurn planOf licensed unlessBarred aimed onRecord tallies countFirst readyTurn readyBy hasRead gets areasOf onHead countsIn allRead seenOf seenWith actTurn writeTurn sight areasRead ruleOf find controls searches reads writes
+    unfolding command ruleTurn aimed onRecord tallies countFirst readyTurn readyBy hasRead gets areasOf onHead countsIn allRead seenOf seenWith actTurn writeTurn sight areasRead ruleOf find controls searches reads writes
     zero-is =
         let k : Task = task (s .head) r0First (On Spot.R0) 0 in
         let r : Rule = ruleOf 0x15 in
-        ap (λ (p : Plan). readyTurn g t s o v (planReads t r p) (readyBy t 0x15 r s o p))
-        (first-picked (licensed Licence.HomeAddress o) _ (Refuses Row.WrongBefore) before
-        ∙ second-picked (barsWrite (o .mask) HomeOrR0) (Refuses Row.WriteBarred) (Works k) allowed)
+        ap (λ (p : Plan). readyTurn g t s o v (planReads t r p) (readyBy t 0x15 r s o p)) (permitted-plan r (marksOf t) s o zero-permitted)
         ∙ ap (λ (y : Got). readyTurn g t s o v (planReads t r (Works k)) (hasRead 0x15 r s o k y))
         (first-picked (readable (t (s .head)) homeArea) (Sees noCounts) (Fails (rowOf (homeArea .part))) home)
 
@@ -228,7 +241,7 @@ module _ (g : Shape) (t : Tracks) (s : Position) (o : Orders) (v : List ℕ) (al
         let x : Turn = r0Turn (writeSight t s o 0x15 r0First (On Spot.R0) v) flag in
         let e : x .ending ≡ Normal = ap (λ (y : Turn). y .ending) (first-picked (fits r0First (recordCells (newCounts flag v))) _ _ room) in
         subst (λ (y : Turn). Sound (lay (y .lays) (t (s .head)))) (sym zero-is)
-        (normal-lasts Write.R0 o v (t (s .head)) x e (r0-good t s o v long b 0x15 (ruleOf 0x15) k noCounts refl flag refl home))
+        (normal-lasts _ Write.R0 o v (t (s .head)) x e (r0-good (ruleOf 0x15) t s o v long b zero-permitted 0x15 k noCounts refl flag refl home))
 
 module _ (g : Shape) (t : Tracks) (s : Position) (o : Orders) (v : List ℕ) (allowed : barsWrite (o .mask) HomeOrR0 ≡ false) where
   -- after the turn x, on the tracks t′ that it left, Write R0 with the bytes u, which has room
@@ -242,8 +255,8 @@ module _ (g : Shape) (t : Tracks) (s : Position) (o : Orders) (v : List ℕ) (al
   then-zero long b t′ e u b′ room =
       let x : Turn = homeTurn (writeSight t s o 0x19 homePlace Nothing v) in
       let H : HomeOnly (t′ (s .head)) =
-      subst HomeOnly (sym e) (normal-lasts Write.HomeAddress o v (t (s .head)) x refl
-      (home-good t s o v long b 0x19 (ruleOf 0x19) (task (s .head) homePlace Nothing 0) noCounts refl)) in
+      subst HomeOnly (sym e) (normal-lasts _ Write.HomeAddress o v (t (s .head)) x refl
+      (home-good (ruleOf 0x19) t s o v long b (home-permitted g t s o v allowed) 0x19 (task (s .head) homePlace Nothing 0) noCounts refl)) in
       zero-sound g t′ (x .position) (x .orders) u allowed refl (H .home) (H .long) b′ room
 
   pub home-then-zero : length (t (s .head)) ≡ trackCells → Bytes v → ThenZero (command g t s o 0x19 v)

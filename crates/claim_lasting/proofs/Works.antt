@@ -1,54 +1,34 @@
 -- Where a write works, and what it has read when it lays: it stays under the head; 1D, 05 and 0D work on the record selected, and know its count; Write R0
--- has read the home address. Why: so say their rows of the table.
+-- has read the home address; each has its licence, and the mask lets it through. Why: so say their rows of the table, and a plan refuses what is not
+-- permitted.
 use Prim.Native.Nat.{ℕ}
 use mathlib.Core.Path.{_≡_, refl, sym, ap, _∙_, subst}
-use mathlib.Core.Bool.{Bool, true, false, not, false≢true}
+use mathlib.Core.Bool.{Bool, true, false, false≢true}
 use mathlib.Core.List.{List, [], _∷_}
 use native.Mathlib.Omega.{arith}
 use lib.ListN.{getD}
 use Rattle.cells.specs.Cells.{pick, both}
-use Rattle.cells.proofs.Tests.{pick-all, first-of, second-of}
+use Rattle.cells.proofs.Tests.{first-of, second-of, first-picked}
 use Rattle.rows.specs.declared.{Row.Row}
-use Rattle.mask.specs.Mask.{barsSeek, barsWrite}
 use Rattle.areas.specs.declared.{Counts.Counts}
 use Rattle.areas.specs.Areas.{homeArea, homeFlag, countsAt, readable}
 use Rattle.hunt.specs.declared.{Spot.Spot}
 use Rattle.hunt.specs.Hunt.{countFirst}
 use Rattle.pack.specs.declared.{Head.Head, Shape.Shape}
-use Rattle.held.specs.declared.{Selection.Selection, Position.Position, Orders.Orders}
-use Rattle.held.specs.declared.Selection.the-variants.{Nothing, On}
+use Rattle.held.specs.declared.{Position.Position, Orders.Orders}
+use Rattle.held.specs.declared.Selection.the-variants.{On}
 use Rattle.command.specs.declared.{Got.Got, Task.Task, Plan.Plan}
 use Rattle.command.specs.declared.Got.the-variants.{Sees, Fails}
-use Rattle.command.specs.Command.{seenWith, Marks, marksOf, licensed, tallies, onRecord, onSelected, aimed, unlessBarred, planOf, onHead, areasOf, allRead, countsIn, gets, seenOf, sight, writeTurn, actTurn, jobOf, hasRead, readyBy, readyTurn, ruleTurn, command}
-use Rattle.table.specs.declared.{Bar.Bar, Aim.Aim, Names.Names, Write.Write, Act.Act, Rule.Rule}
+use Rattle.command.specs.Command.{seenWith, Marks, marksOf, licensed, aimed, planOf, onHead, areasOf, allRead, countsIn, gets, seenOf, sight, writeTurn, actTurn, jobOf, hasRead, readyBy, planReads, readyTurn, ruleTurn, command}
+use Rattle.table.specs.declared.{Aim.Aim, Names.Names, Write.Write, Act.Act, Rule.Rule}
 use Rattle.table.specs.Table.{ruleOf, controls, searches, reads, writes}
 use Rattle.table.proofs.Laws.{every, each, of-every}
 use Rattle.turn.specs.Turn.{Tracks, TrackArea, Turn, checkTurn}
 use Rattle.command.specs.declared.Plan.the-variants.{Refuses, Works}
+use Rattle.command.proofs.Planned.{isSelected, Planned, refuses, stays, home, takes, aimed-is, permitted-or}
+use Rattle.claim_lasting.specs.Lasting.{Permitted}
 
 -- ---- what the table's rows of the writes have in common
-
--- an aim is the record selected
-unfoldable isSelected : Aim → Bool
-isSelected Aim.Stays = false
-isSelected Aim.HomeAddress = false
-isSelected Aim.R0 = false
-isSelected Aim.NextId = false
-isSelected Aim.Next = false
-isSelected Aim.NextForData = false
-isSelected Aim.NextForKey = false
-isSelected Aim.Selected = true
-
--- it goes on to the next record
-unfoldable hunts : Aim → Bool
-hunts Aim.Stays = false
-hunts Aim.HomeAddress = false
-hunts Aim.R0 = false
-hunts Aim.NextId = true
-hunts Aim.Next = true
-hunts Aim.NextForData = true
-hunts Aim.NextForKey = true
-hunts Aim.Selected = false
 
 unfoldable namesHome : Names → Bool
 namesHome Names.Nothing = false
@@ -71,16 +51,16 @@ unfoldable ofAct : Act → Rule → Bool
 ofAct (Act.Control a) r = true
 ofAct (Act.Search h) r = true
 ofAct (Act.Read c) r = true
-ofAct (Act.Write w) r = both (not (hunts (r .aim))) (ofWrite w r)
+ofAct (Act.Write w) r = ofWrite w r
 
 unfoldable rowed : Rule → Bool
 rowed r = ofAct (r .act) r
 
 rowed-rule : (c : ℕ) → rowed (ruleOf c) ≡ true
-unfolding rowed ofAct ofWrite isSelected hunts namesHome namesCount every each controls searches reads writes
+unfolding rowed ofAct ofWrite isSelected namesHome namesCount every each controls searches reads writes
 rowed-rule c = of-every rowed refl c
 
-write-row : (w : Write) (c : ℕ) → ruleOf c .act ≡ Act.Write w → both (not (hunts (ruleOf c .aim))) (ofWrite w (ruleOf c)) ≡ true
+write-row : (w : Write) (c : ℕ) → ruleOf c .act ≡ Act.Write w → ofWrite w (ruleOf c) ≡ true
 unfolding rowed ofAct
 write-row w c act = ap (λ (a : Act). ofAct a (ruleOf c)) (sym act) ∙ rowed-rule c
 
@@ -99,40 +79,16 @@ abbrev PlanPlaced : Position → Orders → Aim → Plan → Type 0
 PlanPlaced s o a (Refuses row) = Unit {0}
 PlanPlaced s o a (Works k) = Placed s o a k
 
-module _ (r : Rule) (m : Marks) (s : Position) (o : Orders) where
-  record-placed : (a : Aim) (spot : Spot) (n : ℕ) → (isSelected a ≡ true → o .selection ≡ On spot) → PlanPlaced s o a (onRecord r o (s .head) spot n)
-  unfolding onRecord
-  record-placed a spot n f =
-      pick-all (PlanPlaced s o a) (both (tallies (r .act)) _) {x = Refuses Row.SecondIndex} tt
-      (record { here = refl; on = λ e. record { spot = spot; is = f e; place = refl } })
+planned-placed : (m : List Bool) (r : Rule) (s : Position) (o : Orders) (a : Aim) (p : Plan) → Planned m r s (o .selection) a p → PlanPlaced s o a p
+unfolding isSelected
+planned-placed m r s o a p (refuses row) = tt
+planned-placed m r s o a p (stays e) = record { here = refl; on = λ q. absurd (false≢true (sym (ap isSelected e) ∙ q)) }
+planned-placed m r s o a p (home e) = record { here = refl; on = λ q. absurd (false≢true (sym (ap isSelected e) ∙ q)) }
+planned-placed m r s o a p (takes spot f n h) = record { here = refl; on = λ q. record { spot = spot; is = f .selected q; place = refl } }
 
-  selected-placed : (x : Selection) → o .selection ≡ x → PlanPlaced s o Aim.Selected (onSelected r o (s .head) x (Refuses Row.WrongBefore))
-  unfolding onSelected
-  selected-placed Nothing e = tt
-  selected-placed (On spot) e = record-placed Aim.Selected spot 0 (λ q. e)
-
-  aimed-placed : (a : Aim) → not (hunts a) ≡ true → PlanPlaced s o a (aimed r m s o a)
-  unfolding aimed hunts isSelected
-  aimed-placed Aim.Stays e = record { here = refl; on = λ q. absurd (false≢true q) }
-  aimed-placed Aim.HomeAddress e = record { here = refl; on = λ q. absurd (false≢true q) }
-  aimed-placed Aim.R0 e = record-placed Aim.R0 Spot.R0 0 (λ q. absurd (false≢true q))
-  aimed-placed Aim.NextId e = absurd (false≢true e)
-  aimed-placed Aim.Next e = absurd (false≢true e)
-  aimed-placed Aim.NextForData e = absurd (false≢true e)
-  aimed-placed Aim.NextForKey e = absurd (false≢true e)
-  aimed-placed Aim.Selected e = selected-placed (o .selection) refl
-
-  barred-placed : (a : Aim) (b : Bar) (x : Plan) → PlanPlaced s o a x → PlanPlaced s o a (unlessBarred b (o .mask) x)
-  unfolding unlessBarred
-  barred-placed a Bar.Nothing x h = h
-  barred-placed a (Bar.Seeks k) x h = pick-all (PlanPlaced s o a) (barsSeek (o .mask) k) {x = Refuses Row.SeekBarred} tt h
-  barred-placed a (Bar.Writes k) x h = pick-all (PlanPlaced s o a) (barsWrite (o .mask) k) {x = Refuses Row.WriteBarred} tt h
-
-  plans-placed : not (hunts (r .aim)) ≡ true → PlanPlaced s o (r .aim) (planOf r m s o)
-  unfolding planOf
-  plans-placed e =
-      pick-all (PlanPlaced s o (r .aim)) (licensed (r .licence) o) {y = Refuses Row.WrongBefore}
-      (barred-placed (r .aim) (r .bar) _ (aimed-placed (r .aim) e)) tt
+pub permitted-plan : (r : Rule) (m : Marks) (s : Position) (o : Orders) → Permitted r o → planOf r m s o ≡ aimed r m s o (r .aim)
+unfolding planOf
+permitted-plan r m s o q = first-picked (licensed (r .licence) o) _ _ (q .licence) ∙ q .mask _
 
 -- ---- what a write has when it lays: Write R0 the home address; 1D, 05 and 0D the record selected, and its count
 
@@ -189,27 +145,28 @@ module _ (r : Rule) (s : Position) (o : Orders) (t : Tracks) (k : Task) (n : Cou
 
 module _ (g : Shape) (t : Tracks) (s : Position) (o : Orders) (code : ℕ) (v : List ℕ) (w : Write) (act : ruleOf code .act ≡ Act.Write w)
     (Q : Turn → Type 0) (ended : (l : List TrackArea) (row : Row) → Q (checkTurn s o l row))
-    (laying : (k : Task) (n : Counts) → k .head ≡ s .head → Needs w (ruleOf code) o t k n → Q (writeTurn w (sight t (jobOf code (ruleOf code) s o k n) v))) where
+    (laying : Permitted (ruleOf code) o → (k : Task) (n : Counts) → k .head ≡ s .head → Needs w (ruleOf code) o t k n → Q (writeTurn w (sight t (jobOf code (ruleOf code) s o k n) v))) where
   abbrev r : Rule
   r = ruleOf code
 
-  row-of : both (not (hunts (r .aim))) (ofWrite w r) ≡ true
-  row-of = write-row w code act
-
-  read-turn : (l : List TrackArea) (k : Task) → Placed s o (r .aim) k → (y : Got) → gets (r .names) t (k .head) (k .place) ≡ y
+  read-turn : Permitted r o → (l : List TrackArea) (k : Task) → Placed s o (r .aim) k → (y : Got) → gets (r .names) t (k .head) (k .place) ≡ y
       → Q (readyTurn g t s o v l (hasRead code r s o k y))
   unfolding readyTurn hasRead actTurn
-  read-turn l k P (Sees n) e =
+  read-turn q l k P (Sees n) e =
       subst (λ (a : Act). Q (actTurn g a (sight t (jobOf code r s o k n) v))) (sym act)
-      (laying k n (P .here) (write-seen r s o t k n P e w (second-of (not (hunts (r .aim))) _ row-of)))
-  read-turn l k P (Fails row) e = ended l row
+      (laying q k n (P .here) (write-seen r s o t k n P e w (write-row w code act)))
+  read-turn q l k P (Fails row) e = ended l row
 
-  plan-turn : (l : List TrackArea) (p : Plan) → PlanPlaced s o (r .aim) p → Q (readyTurn g t s o v l (readyBy t code r s o p))
+  abbrev Done : Plan → Type 0
+  Done p = Q (readyTurn g t s o v (planReads t r p) (readyBy t code r s o p))
+
+  plan-turn : Permitted r o → (p : Plan) → PlanPlaced s o (r .aim) p → Done p
   unfolding readyTurn readyBy
-  plan-turn l (Refuses row) P = ended l row
-  plan-turn l (Works k) P = read-turn l k P (gets (r .names) t (k .head) (k .place)) refl
+  plan-turn q (Refuses row) P = ended _ row
+  plan-turn q (Works k) P = read-turn q _ k P (gets (r .names) t (k .head) (k .place)) refl
 
   pub write-turn : Q (command g t s o code v)
-  unfolding command ruleTurn
+  unfolding command ruleTurn readyTurn readyBy
   write-turn =
-      plan-turn _ (planOf r (marksOf t) s o) (plans-placed r (marksOf t) s o (first-of (not (hunts (r .aim))) _ row-of))
+      permitted-or Done (λ row. ended _ row) r (marksOf t) s o
+      (λ e q. plan-turn (record { licence = e; mask = q }) (aimed r (marksOf t) s o (r .aim)) (planned-placed _ r s o _ _ (aimed-is (marksOf t) r s o (r .aim))))

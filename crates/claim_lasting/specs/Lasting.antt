@@ -1,7 +1,7 @@
 -- Document 01, "What lies on a track" and "Commands", the writes: what each of them leaves on the track under the head. Write R0 leaves a soundly
 -- written track whatever lay behind the home address, which it read first; 1D, 05 and 0D leave one if the track was; Write HA leaves a readable home
--- address and zeros from cell 7, which is not soundly written until a Write R0. Reading back returns the bytes written. A command ending in Unit Check
--- changes no track cell.
+-- address and zeros from cell 7, which is not soundly written until a Write R0. Reading back returns the bytes written. What was written had its
+-- licence, and the mask let it through. A command ending in Unit Check changes no track cell.
 use Prim.Native.Nat.{ℕ, _+_, _<_, _≤_}
 use mathlib.Core.Path.{_≡_}
 use mathlib.Core.Bool.{Bool, true}
@@ -17,9 +17,10 @@ use Rattle.recording.specs.Recording.{countSent}
 use Rattle.held.specs.declared.{Selection.Selection, Orders.Orders}
 use Rattle.turn.specs.declared.{Ending.Ending}
 use Rattle.format.specs.Format.{newCounts}
-use Rattle.table.specs.declared.{Write.Write}
+use Rattle.table.specs.declared.{Write.Write, Rule.Rule}
 use Rattle.turn.specs.Turn.{Turn, lay}
-use Rattle.command.specs.Command.{keySent}
+use Rattle.command.specs.declared.{Plan.Plan}
+use Rattle.command.specs.Command.{licensed, unlessBarred, keySent}
 use Rattle.sound.specs.Sound.{flagAt, endAt, Sound}
 
 -- ---- is the track left soundly written
@@ -76,10 +77,17 @@ Took Write.R0 x spot = Unit {0}
 Took Write.CountKeyData x spot = x ≡ Selection.On spot
 Took (Write.Update key) x spot = x ≡ Selection.On spot
 
--- ---- the command's turn, with the bytes v sent, on the track t under the head
+-- ---- "nothing changes without mask and licence"
 
--- it ended in Unit Check and no cell changed; or it did not, and what it left lasts and can be read back
-pub data Leaves (w : Write) (o : Orders) (v t : List ℕ) (x : Turn) : Type 0 where
-  unchanged : (row : Row) → x .ending ≡ Ending.Check row → x .lays ≡ [] → Leaves w o v t x
-  written : (spot : Spot) → Took w (o .selection) spot → ((row : Row) → x .ending ≡ Ending.Check row → ⊥)
-      → Lasts w t (lay (x .lays) t) → ReadsBack w (countFirst spot) v t (lay (x .lays) t) → Leaves w o v t x
+-- the command before licenses it, and the mask does not bar it
+pub record Permitted (r : Rule) (o : Orders) : Type 0 where
+  pub licence : licensed (r .licence) o ≡ true
+  pub mask : (p : Plan) → unlessBarred (r .bar) (o .mask) p ≡ p
+
+-- ---- the command's turn, by its row r of the table, with the bytes v sent, on the track t under the head
+
+-- it ended in Unit Check and no cell changed; or it did not, then it was permitted, and what it left lasts and can be read back
+pub data Leaves (r : Rule) (w : Write) (o : Orders) (v t : List ℕ) (x : Turn) : Type 0 where
+  unchanged : (row : Row) → x .ending ≡ Ending.Check row → x .lays ≡ [] → Leaves r w o v t x
+  written : Permitted r o → (spot : Spot) → Took w (o .selection) spot → ((row : Row) → x .ending ≡ Ending.Check row → ⊥)
+      → Lasts w t (lay (x .lays) t) → ReadsBack w (countFirst spot) v t (lay (x .lays) t) → Leaves r w o v t x

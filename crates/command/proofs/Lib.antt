@@ -1,4 +1,5 @@
 -- Laws of the commands.
+pub mod Planned
 pub mod Plans
 pub mod Pieces
 pub mod Moves
