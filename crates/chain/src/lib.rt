@@ -159,7 +159,9 @@ fn pass(h: Held, storage: &[u8], allowance: u16) -> Reached
 // The next command word of a chain that is going, or a run of No-ops.
 fn advance(g: Shape, h: Held, storage: &mut [u8], cells: &mut [u16], left: u16) -> Reached
     requires { ⌜ Legal g (world h (now storage) (now cells)) × (0 < left) × (h .channel .going ≡ true) ⌝ }
-    ensures { λ r. ⌜ (run g left (world h (now (storage .entry)) (now (cells .entry))) ≡ run g (r .left) (world (r .held) (now (storage .exit)) (now (cells .exit)))) × Legal g (world (r .held) (now (storage .exit)) (now (cells .exit))) × (r .left < left) ⌝ }
+    ensures { λ r. ⌜ (run g left (world h (now (storage .entry)) (now (cells .entry)))
+        ≡ run g (r .left) (world (r .held) (now (storage .exit)) (now (cells .exit))))
+        × Legal g (world (r .held) (now (storage .exit)) (now (cells .exit))) × (r .left < left) ⌝ }
 {
     if is_pass(storage, h.channel.next) {
         return pass(h, storage, left);

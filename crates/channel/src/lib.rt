@@ -205,7 +205,8 @@ fn place(j: Job, w: Word, storage: &mut [u8], track: &[u16])
 // The cells that a job lays, of the bytes at a word's address.
 fn lay(j: Job, w: Word, storage: &[u8], track: &mut [u16])
     requires { ⌜ Reaches (now storage) w × WholeTrack (now track) × Sighted (alone (now track)) j × Accepts j (fetched (now storage) w) (now track) ⌝ }
-    ensures { λ _. ⌜ ((g : Shape) → now (track .exit) ≡ lay (wordTurn g j w (now (storage .entry)) (now (track .entry)) .lays) (now (track .entry))) ⌝ }
+    ensures { λ _. ⌜ ((g : Shape) → now (track .exit)
+        ≡ lay (wordTurn g j w (now (storage .entry)) (now (track .entry)) .lays) (now (track .entry))) ⌝ }
 {
     let at = w.address as usize;
     let end = at + w.count as usize;

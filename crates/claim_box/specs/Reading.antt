@@ -4,7 +4,7 @@
 use Prim.Native.Nat.{ℕ, zero, suc}
 use mathlib.Core.Path.{_≡_}
 use mathlib.Core.Bool.{Bool, true, false}
-use mathlib.Core.List.{List, [], _∷_, _++_, map}
+use mathlib.Core.List.{List, [], _∷_, _++_}
 use lib.ListN.{set, replicate}
 use Rattle.cells.specs.Cells.{pick, either, part, overlay, marker, cellOf}
 use Rattle.house_check.specs.Check.{cellsWithCheck}
@@ -12,8 +12,10 @@ use Rattle.rows.specs.Rows.{sense}
 use Rattle.words.specs.Words.{statusAt}
 use Rattle.areas.specs.declared.{Area.Area, Part.Part}
 use Rattle.areas.specs.Areas.{area, homeArea, r0First, countArea}
+use Rattle.pack.specs.Pack.{head}
 use Rattle.held.specs.Held.{fresh}
 use Rattle.turn.specs.Turn.{TrackArea}
+use Rattle.command.specs.Command.{onHead}
 use Rattle.channel.specs.Channel.{World, world}
 use Rattle.chain.specs.Step.{step, wordReads}
 use Rattle.host.specs.declared.{Answer.Answer}
@@ -84,44 +86,48 @@ abbrev pub chained : ℕ → ℕ → List ℕ
 chained code countWith = word 0x31 128 0x40 5 ++ word 0x08 256 0x00 0 ++ oneWord code countWith
 
 -- the areas that a chain's next word reads, after so many words
-abbrev pub readsAfter : ℕ → World → List Area
-readsAfter n w = map (λ (a : TrackArea). a .area) (wordReads onePack (goes onePack n w .left))
+abbrev pub readsAfter : ℕ → World → List TrackArea
+readsAfter n w = wordReads onePack (goes onePack n w .left)
+
+-- areas of the one track, under head 0
+abbrev pub under0 : List Area → List TrackArea
+under0 l = onHead (head 0) l
 
 -- what each word reads, area by area and in order
 pub record Reading : Type 0 where
   pub sound : Sound stocked
   pub sound-alone : Sound homeAndR0
   -- home address work
-  pub search-home : readsAfter 0 (begun stocked (oneWord 0x39 4) 0) ≡ homeArea ∷ []
-  pub read-home : readsAfter 0 (begun stocked (oneWord 0x1A 5) 0) ≡ homeArea ∷ []
+  pub search-home : readsAfter 0 (begun stocked (oneWord 0x39 4) 0) ≡ under0 (homeArea ∷ [])
+  pub read-home : readsAfter 0 (begun stocked (oneWord 0x1A 5) 0) ≡ under0 (homeArea ∷ [])
   -- Search ID: the count only. It comes to R0, and back by the TIC, which reads nothing, to record 1
-  pub search-id : readsAfter 0 (begun stocked (chained 0x06 3) 1) ≡ r0Count ∷ []
+  pub search-id : readsAfter 0 (begun stocked (chained 0x06 3) 1) ≡ under0 (r0Count ∷ [])
   pub tic : readsAfter 1 (begun stocked (chained 0x06 3) 1) ≡ []
-  pub search-id-next : readsAfter 2 (begun stocked (chained 0x06 3) 1) ≡ oneCount ∷ []
+  pub search-id-next : readsAfter 2 (begun stocked (chained 0x06 3) 1) ≡ under0 (oneCount ∷ [])
   -- chained from it, satisfied by record 1. Read Data: count and data of the record selected, the key is passed over
-  pub read-data : readsAfter 3 (begun stocked (chained 0x06 3) 1) ≡ oneCount ∷ oneData ∷ []
-  pub read-key-data : readsAfter 3 (begun stocked (chained 0x0E 5) 1) ≡ oneCount ∷ oneKey ∷ oneData ∷ []
-  pub search-key : readsAfter 3 (begun stocked (chained 0x29 2) 1) ≡ oneCount ∷ oneKey ∷ []
+  pub read-data : readsAfter 3 (begun stocked (chained 0x06 3) 1) ≡ under0 (oneCount ∷ oneData ∷ [])
+  pub read-key-data : readsAfter 3 (begun stocked (chained 0x0E 5) 1) ≡ under0 (oneCount ∷ oneKey ∷ oneData ∷ [])
+  pub search-key : readsAfter 3 (begun stocked (chained 0x29 2) 1) ≡ under0 (oneCount ∷ oneKey ∷ [])
   pub space-record : readsAfter 3 (begun stocked (chained 0x0F 1) 1) ≡ []
   -- .. satisfied by R0, at once
-  pub read-data-zero : readsAfter 1 (begun stocked (chained 0x06 8) 0) ≡ r0Count ∷ r0Data ∷ []
+  pub read-data-zero : readsAfter 1 (begun stocked (chained 0x06 8) 0) ≡ under0 (r0Count ∷ r0Data ∷ [])
   -- Read Count: the count only, of the next record, so that R0 is passed
-  pub read-count : readsAfter 0 (begun stocked (oneWord 0x12 8) 0) ≡ oneCount ∷ []
+  pub read-count : readsAfter 0 (begun stocked (oneWord 0x12 8) 0) ≡ under0 (oneCount ∷ [])
   -- Read R0: not the home address; the key if there is one
-  pub read-zero : readsAfter 0 (begun stocked (oneWord 0x16 18) 0) ≡ r0Count ∷ r0Key ∷ r0Data ∷ []
-  pub read-zero-keyless : readsAfter 0 (begun homeAndR0 (oneWord 0x16 16) 0) ≡ r0Count ∷ area Part.Data 18 8 ∷ []
+  pub read-zero : readsAfter 0 (begun stocked (oneWord 0x16 18) 0) ≡ under0 (r0Count ∷ r0Key ∷ r0Data ∷ [])
+  pub read-zero-keyless : readsAfter 0 (begun homeAndR0 (oneWord 0x16 16) 0) ≡ under0 (r0Count ∷ area Part.Data 18 8 ∷ [])
   -- Read CKD; and of a record with DL 0, the next after record 2 was found
-  pub read-all : readsAfter 0 (begun stocked (oneWord 0x1E 13) 0) ≡ oneCount ∷ oneKey ∷ oneData ∷ []
-  pub read-all-empty : readsAfter 5 (begun stocked (chained 0x1E 12) 2) ≡ threeCount ∷ threeKey ∷ []
+  pub read-all : readsAfter 0 (begun stocked (oneWord 0x1E 13) 0) ≡ under0 (oneCount ∷ oneKey ∷ oneData ∷ [])
+  pub read-all-empty : readsAfter 5 (begun stocked (chained 0x1E 12) 2) ≡ under0 (threeCount ∷ threeKey ∷ [])
   -- a row that ends a command first, so that it reads nothing: no marker on the track, 00 02
   pub no-marker : readsAfter 0 (begun homeAndR0 (oneWord 0x29 2) 0) ≡ []
   pub no-marker-sense : positionLeft (goes onePack 1 (begun homeAndR0 (oneWord 0x29 2) 0)) .sense ≡ sense 0x00 0x02
   -- the second index point, 00 08: the first Search ID, below place 7, passes none, the second passes one, the third another
-  pub first-index : readsAfter 2 (begun homeAndR0 (chained 0x06 3) 1) ≡ r0Count ∷ []
+  pub first-index : readsAfter 2 (begun homeAndR0 (chained 0x06 3) 1) ≡ under0 (r0Count ∷ [])
   pub second-index : readsAfter 4 (begun homeAndR0 (chained 0x06 3) 1) ≡ []
   pub second-index-sense : positionLeft (goes onePack 5 (begun homeAndR0 (chained 0x06 3) 1)) .sense ≡ sense 0x00 0x08
   -- a count that is not readable: the count alone, its lengths are not used
-  pub bad-count : readsAfter 0 (begun hurtCount (oneWord 0x1E 13) 0) ≡ oneCount ∷ []
+  pub bad-count : readsAfter 0 (begun hurtCount (oneWord 0x1E 13) 0) ≡ under0 (oneCount ∷ [])
 
 -- ---- demand 3 by example
 

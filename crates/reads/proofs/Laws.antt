@@ -12,7 +12,7 @@ use Rattle.cells.proofs.Laws.{length-bytesOf, getD-bytesOf, take-bytesOf, drop-
 use Rattle.areas.specs.declared.{Area.Area, Counts.Counts}
 use Rattle.areas.specs.Areas.{keyArea, dataArea}
 use Rattle.turn.specs.Turn.{filled}
-use Rattle.reads.specs.declared.{Rest.Rest}
+use Rattle.reads.specs.declared.{Rest.Rest, Parts.Parts}
 use Rattle.reads.specs.Inside.{LieIf, portion, Puts, start, recordGiven}
 
 -- ---- cells of the track
@@ -127,13 +127,13 @@ module _ (l : List ℕ) (r : Rest) (a mid : List ℕ) (x : Rest) (h : r .at ≤ 
 pub lies-by : (t : List ℕ) (f g m n : ℕ) → f ≡ g → m ≡ n → LieIf t g n → LieIf t f m
 lies-by t f g m n p q h = record { ends = λ k. omega (arith, h .ends (omega arith)) }
 
-module _ (t : List ℕ) (counted key body : Bool) (c : ℕ) (n : Counts) (k d : Area) (x y z : ℕ) (p : x ≡ pick counted 8 0) (q : k ≡ keyArea c n)
-    (u : y ≡ pick key (n .kl) 0) (v : d ≡ dataArea c n) (w : z ≡ pick body (n .dl) 0) where
+module _ (t : List ℕ) (s : Parts) (c : ℕ) (n : Counts) (k d : Area) (x y z : ℕ) (p : x ≡ pick (s .counted) 8 0) (q : k ≡ keyArea c n)
+    (u : y ≡ pick (s .key) (n .kl) 0) (v : d ≡ dataArea c n) (w : z ≡ pick (s .body) (n .dl) 0) where
   pub puts-record : (l m o out : List ℕ) (r a b e : Rest) → r .at ≤ length l → Puts l r (bytesOf (part t (c + 1) x)) m a
       → Puts m a (bytesOf (part t (k .first) y)) o b → Puts o b (bytesOf (part t (d .first) z)) out e
-      → Puts l r (recordGiven t counted key body c n) out e
+      → Puts l r (recordGiven t s c n) out e
   puts-record l m o out r a b e h f g i =
-      subst (λ (s : List ℕ). Puts l r s out e)
+      subst (λ (all : List ℕ). Puts l r all out e)
       (λ j. bytesOf (part t (c + 1) (p j)) ++ (bytesOf (part t (q j .first) (u j)) ++ bytesOf (part t (v j .first) (w j))))
       (puts-both l r _ m a h f _ out e (puts-both m a _ o b (next-fits l r _ m a h f) g _ out e i))
 

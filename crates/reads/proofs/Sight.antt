@@ -20,7 +20,7 @@ use Rattle.turn.specs.Turn.{Tracks, given, transferOf, filled, reportOf}
 use Rattle.command.specs.declared.{Job.Job}
 use Rattle.ending.specs.Ending.{reportAt}
 use Rattle.reads.specs.declared.{Rest.Rest}
-use Rattle.reads.specs.Inside.{LieIf, LieAll, Puts, start, countGiven, keyGiven, bodyGiven, bytesGiven, manyGiven}
+use Rattle.reads.specs.Inside.{LieIf, LieAll, Puts, start, countGiven, keyGiven, bodyGiven, parts, bytesGiven, manyGiven}
 use Rattle.reads.proofs.Laws.{long, all-put, none-put}
 
 -- ---- a count's 8 bytes are those of its cells but the flag's
@@ -104,7 +104,7 @@ module _ (tr : Tracks) (h : Head) (c : ℕ) (counted key body : Bool) (n : Count
   body-is : pick body (x .body) [] ≡ bodyGiven t body c n
   body-is = ap (λ (y : List ℕ). pick body y []) (record-body tr h c key body n e) ∙ twice body _ ∙ picked body _ (n .dl)
 
-  record-lies : LieAll t counted key body c n
+  record-lies : LieAll t (parts counted key body) c n
   record-lies = record {
     count = lie-if counted (c + 1) 8 (λ _ _. omega (arith, count-lies tr h c key body n e));
     key = lie-if key _ (n .kl) (key-lies tr h c key body n e);
@@ -140,7 +140,7 @@ module _ (t : Tracks) (j : Job) (s : Sighted t j) where
   pub home-on : j .rule .names ≡ Names.HomeAddress → LieIf on 0 5
   home-on p = record { ends = λ _. omega (arith, home-lies t (j .task .head) (j .task .place) (j .counts) (sees-by _ p)) }
 
-  pub record-on : (counted key body : Bool) → j .rule .names ≡ Names.Count key body → LieAll on counted key body (j .task .place) (j .counts)
+  pub record-on : (counted key body : Bool) → j .rule .names ≡ Names.Count key body → LieAll on (parts counted key body) (j .task .place) (j .counts)
   record-on counted key body p = record-lies t (j .task .head) (j .task .place) counted key body (j .counts) (sees-by _ p)
 
   -- these bytes put into lent ones are those that the read gives
@@ -164,7 +164,7 @@ module _ (t : Tracks) (j : Job) (s : Sighted t j) where
 -- ---- what the channel is told
 
 module _ (t : List ℕ) (c : ℕ) (counted : Bool) (n : Counts) where
-  record-many : (key body : Bool) → LieAll t counted key body c n
+  record-many : (key body : Bool) → LieAll t (parts counted key body) c n
       → length (bytesGiven t counted (Names.Count key body) c n) ≡ manyGiven counted (Names.Count key body) n
   unfolding bytesGiven manyGiven
   record-many key body h =

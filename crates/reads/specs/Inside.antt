@@ -9,8 +9,8 @@ use Rattle.areas.specs.declared.{Counts.Counts}
 use Rattle.areas.specs.Areas.{homeBytes, keyArea, dataArea}
 use Rattle.recording.specs.Recording.{countSent}
 use Rattle.table.specs.declared.{Names.Names}
--- Rest: at, where the next byte goes; from, how many bytes are left out before it.
-use Rattle.reads.specs.declared.{Rest.Rest}
+-- Rest: at, where the next byte goes; from, how many bytes are left out before it. Parts, which are given: counted, key, body.
+use Rattle.reads.specs.declared.{Rest.Rest, Parts.Parts}
 
 -- so many bytes from a cell on lie on the track, if there are any
 pub record LieIf (t : List ℕ) (first n : ℕ) : Type 0 where
@@ -43,14 +43,17 @@ keyGiven t key c n = bytesOf (part t (keyArea c n .first) (pick key (n .kl) 0))
 abbrev pub bodyGiven : List ℕ → Bool → ℕ → Counts → List ℕ
 bodyGiven t body c n = bytesOf (part t (dataArea c n .first) (pick body (n .dl) 0))
 
-abbrev pub recordGiven : List ℕ → Bool → Bool → Bool → ℕ → Counts → List ℕ
-recordGiven t counted key body c n = countGiven t counted c ++ (keyGiven t key c n ++ bodyGiven t body c n)
+abbrev pub recordGiven : List ℕ → Parts → ℕ → Counts → List ℕ
+recordGiven t p c n = countGiven t (p .counted) c ++ (keyGiven t (p .key) c n ++ bodyGiven t (p .body) c n)
+
+abbrev pub parts : Bool → Bool → Bool → Parts
+parts counted key body = record { counted = counted; key = key; body = body }
 
 -- by what is named
 unfoldable pub bytesGiven : List ℕ → Bool → Names → ℕ → Counts → List ℕ
 bytesGiven t counted Names.Nothing c n = []
 bytesGiven t counted Names.HomeAddress c n = bytesOf (part t 0 homeBytes)
-bytesGiven t counted (Names.Count key body) c n = recordGiven t counted key body c n
+bytesGiven t counted (Names.Count key body) c n = recordGiven t (parts counted key body) c n
 
 -- how many they are
 unfoldable pub manyGiven : Bool → Names → Counts → ℕ
@@ -59,7 +62,7 @@ manyGiven counted Names.HomeAddress n = homeBytes
 manyGiven counted (Names.Count key body) n = pick counted countSent 0 + pick key (n .kl) 0 + pick body (n .dl) 0
 
 -- they lie on the track
-pub record LieAll (t : List ℕ) (counted k d : Bool) (c : ℕ) (n : Counts) : Type 0 where
-  pub count : LieIf t (c + 1) (pick counted countSent 0)
-  pub key : LieIf t (keyArea c n .first) (pick k (n .kl) 0)
-  pub body : LieIf t (dataArea c n .first) (pick d (n .dl) 0)
+pub record LieAll (t : List ℕ) (p : Parts) (c : ℕ) (n : Counts) : Type 0 where
+  pub count : LieIf t (c + 1) (pick (p .counted) countSent 0)
+  pub key : LieIf t (keyArea c n .first) (pick (p .key) (n .kl) 0)
+  pub body : LieIf t (dataArea c n .first) (pick (p .body) (n .dl) 0)

@@ -28,6 +28,13 @@ struct Rest {
     from: usize,
 }
 
+// Which parts of a record are given: its count's bytes, its key, its data.
+struct Parts {
+    counted: bool,
+    key: bool,
+    body: bool,
+}
+
 // How many bytes of a part move, if it is named.
 fn bytes_if(named: bool, n: u16) -> u16
     ensures { λ r. ⌜ r ≡ pick named n 0 ⌝ }
@@ -63,36 +70,28 @@ fn put(track: &[u16], first: u32, n: u16, r: Rest, into: &mut [u8]) -> Rest
 }
 
 // The bytes of a record: of its count, its key and its data those that are named, all from the track.
-fn put_record(
-    counted: bool,
-    key: bool,
-    body: bool,
-    c: u16,
-    n: Counts,
-    track: &[u16],
-    r: Rest,
-    into: &mut [u8],
-) -> Rest
-    requires { ⌜ LieAll (now track) counted key body c n × (r .at ≤ length (now into)) ⌝ }
-    ensures { λ x. ⌜ Puts (now (into .entry)) r (recordGiven (now (track .entry)) counted key body c n) (now (into .exit)) x ⌝ }
+fn put_record(p: Parts, c: u16, n: Counts, track: &[u16], r: Rest, into: &mut [u8]) -> Rest
+    requires { ⌜ LieAll (now track) p c n × (r .at ≤ length (now into)) ⌝ }
+    ensures { λ x. ⌜ Puts (now (into .entry)) r (recordGiven (now (track .entry)) p c n) (now (into .exit)) x ⌝ }
 {
     let count = put(
         track,
         c as u32 + FLAG,
-        bytes_if(counted, COUNT_SENT),
+        bytes_if(p.counted, COUNT_SENT),
         r,
         into,
     );
     let keys = areas::key_area(c, n);
-    let keyed = put(track, keys.first, bytes_if(key, n.kl as u16), count, into);
+    let keyed = put(track, keys.first, bytes_if(p.key, n.kl as u16), count, into);
     let data = areas::data_area(c, n);
-    put(track, data.first, bytes_if(body, n.dl), keyed, into)
+    put(track, data.first, bytes_if(p.body, n.dl), keyed, into)
 }
 
 // The bytes that a read gives, from one on, as many as find room.
 pub fn give(counted: bool, j: Job, track: &[u16], from: u32, into: &mut [u8])
     requires { ⌜ Sighted (alone (now track)) j ⌝ }
-    ensures { λ _. ⌜ ((v : List ℕ) → now (into .exit) ≡ filled (now (into .entry)) from (given (readTurn counted (sight (alone (now (track .entry))) j v) .moves))) ⌝ }
+    ensures { λ _. ⌜ ((v : List ℕ) → now (into .exit)
+        ≡ filled (now (into .entry)) from (given (readTurn counted (sight (alone (now (track .entry))) j v) .moves))) ⌝ }
 {
     let r = Rest {
         at: 0,
@@ -106,7 +105,8 @@ pub fn give(counted: bool, j: Job, track: &[u16], from: u32, into: &mut [u8])
             put(track, 0, HOME_BYTES, r, into);
         }
         Names::Count(key, body) => {
-            put_record(counted, key, body, j.task.place, j.counts, track, r, into);
+            let p = Parts { counted, key, body };
+            put_record(p, j.task.place, j.counts, track, r, into);
         }
     }
 }

@@ -68,7 +68,8 @@ pub fn ask(g: Shape, j: Job, sent: &[u8], track: &[u16]) -> Report
 
 // The bytes that a control command gives: those of Sense.
 fn give_control(k: Control, j: Job, from: u32, into: &mut [u8])
-    ensures { λ _. ⌜ ((g : Shape) (t : Tracks) (v : List ℕ) → now (into .exit) ≡ filled (now (into .entry)) from (given (controlTurn g k (sight t j v) .moves))) ⌝ }
+    ensures { λ _. ⌜ ((g : Shape) (t : Tracks) (v : List ℕ) → now (into .exit)
+        ≡ filled (now (into .entry)) from (given (controlTurn g k (sight t j v) .moves))) ⌝ }
 {
     if let Control::Sense = k {
         let position = j.position;
@@ -79,7 +80,8 @@ fn give_control(k: Control, j: Job, from: u32, into: &mut [u8])
 // The bytes that a job gives, from one on, as many as find room.
 pub fn give(j: Job, track: &[u16], from: u32, into: &mut [u8])
     requires { ⌜ Sighted (alone (now track)) j ⌝ }
-    ensures { λ _. ⌜ ((g : Shape) (v : List ℕ) → now (into .exit) ≡ filled (now (into .entry)) from (given (jobTurn g (now (track .entry)) j v .moves))) ⌝ }
+    ensures { λ _. ⌜ ((g : Shape) (v : List ℕ) → now (into .exit)
+        ≡ filled (now (into .entry)) from (given (jobTurn g (now (track .entry)) j v .moves))) ⌝ }
 {
     let rule = j.rule;
     let act = rule.act;

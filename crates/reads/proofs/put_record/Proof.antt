@@ -38,7 +38,7 @@ returns c =
     let k = q .before .before .before .before in
     let p = k .before .before .before in
     let b = p .before .before .before .before .before in
-    puts-record _ (b .args .counted) (b .args .key) (b .args .body) _ _ _ _ _ _ _ (p .before .before .bytes-if .ensures) (k .key-area .ensures)
+    puts-record _ (b .args .p) _ _ _ _ _ _ _ (p .before .before .bytes-if .ensures) (k .key-area .ensures)
     (q .before .before .bytes-if2 .ensures) (d .data-area .ensures) (o .before .before .bytes-if3 .ensures)
     _ _ _ _ _ _ _ _ (b .pre .1) (p .put .ensures) (q .put2 .ensures) (o .put3 .ensures)
 
