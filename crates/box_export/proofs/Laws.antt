@@ -11,7 +11,7 @@ use Rattle.cells.specs.Cells.{pick}
 use Rattle.pack.specs.declared.{Shape.Shape}
 use Rattle.held.specs.declared.{Held.Held, Kept.Kept}
 use Rattle.held.specs.declared.Kept.the-variants.{Holds, Wrong}
-use Rattle.held.specs.Bytes.{heldBytes, encoded, encodes, kept, bit}
+use Rattle.held.specs.Held.{heldBytes, encoded, encodes, kept, bit}
 use Rattle.held.proofs.Inverse.{says}
 use Rattle.channel.specs.Channel.{world}
 use Rattle.host.specs.declared.{Answer.Answer}

@@ -4,7 +4,7 @@ use mathlib.Core.List.{List}
 use lib.ListN.{length}
 use Rattle.pack.specs.declared.{Shape.Shape}
 use Rattle.held.specs.declared.{Kept.Kept}
-use Rattle.held.specs.Bytes.{encoded, kept}
+use Rattle.held.specs.Held.{encoded, kept}
 use Rattle.channel.specs.Channel.{world}
 use Rattle.host.specs.Host.{Hears, answerNo, wrongHeld, starts, goes}
 

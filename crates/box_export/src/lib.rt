@@ -6,8 +6,7 @@ ghost use mathlib.Core.Path.{_≡_};
 ghost use lib.ListN.{length};
 ghost use lib.Dec.{eqb};
 ghost use Rattle.cells.specs.Cells.{pick};
-ghost use Rattle.held.specs.Held.{fresh};
-ghost use Rattle.held.specs.Bytes.{heldBytes, encoded, bit};
+ghost use Rattle.held.specs.Held.{fresh, heldBytes, encoded, bit};
 ghost use Rattle.look.specs.Look.{markerCall, looked, areaCall};
 ghost use Rattle.box_export.specs.Calls.{call, shape, startCall, goCall};
 

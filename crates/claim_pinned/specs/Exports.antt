@@ -8,8 +8,7 @@ use lib.ListN.{length}
 use lib.Dec.{eqb}
 use Rattle.cells.specs.Cells.{pick, bytesOf}
 use Rattle.house_check.specs.Check.{check}
-use Rattle.held.specs.Held.{fresh}
-use Rattle.held.specs.Bytes.{heldBytes, encoded, bit}
+use Rattle.held.specs.Held.{fresh, heldBytes, encoded, bit}
 use Rattle.look.specs.Look.{markerCall, looked, areaCall}
 use Rattle.box_export.specs.Calls.{call, shape, startCall, goCall}
 

@@ -15,8 +15,7 @@ use Rattle.hunt.specs.declared.Spot.the-variants.{R0, Marker}
 use Rattle.held.specs.declared.{Selection.Selection, Held.Held}
 use Rattle.held.specs.declared.Selection.the-variants.{Nothing, On}
 use Rattle.held.specs.declared.Kept.the-variants.{Holds, Wrong}
-use Rattle.held.specs.Held.{fresh, freshPosition, freshOrders, freshChannel}
-use Rattle.held.specs.Bytes.{heldBytes, layout, bit, selectionNo, selectionCell, encoded, InRange, isBit, allZero, isSet, cellFits, encodes, selectionIn, decoded, kept}
+use Rattle.held.specs.Held.{fresh, freshPosition, freshOrders, freshChannel, heldBytes, layout, bit, selectionNo, selectionCell, encoded, InRange, isBit, allZero, isSet, cellFits, encodes, selectionIn, decoded, kept}
 
 -- ---- numbers taken apart and put together
 

@@ -12,7 +12,7 @@ use borrow.Author.Tests.{eq-eqb, ne-eqb}
 use Rattle.cells.specs.Cells.{both, part, overlay, padded}
 use Rattle.cells.proofs.Laws.{overlay-snoc, overlay-append, length-padded, padded-snoc}
 use Rattle.held.specs.declared.{Held.Held}
-use Rattle.held.specs.Bytes.{heldBytes, layout, encoded, allZero, flagsFit, selectionEncoded, encodes}
+use Rattle.held.specs.Held.{heldBytes, layout, encoded, allZero, flagsFit, selectionEncoded, encodes}
 
 -- ---- bytes looked at one by one
 

@@ -1,3 +1,2 @@
 -- The model of the held state.
 pub mod Held
-pub mod Bytes

@@ -8,8 +8,7 @@ ghost use Prim.Native.Nat.{_+_, _/_, _%_, _<_, _≤_};
 ghost use lib.Dec.{eqb};
 ghost use lib.ListN.{length, getD, drop};
 ghost use Rattle.cells.specs.Cells.{pick, be16, overlay, padded, part};
-ghost use Rattle.held.specs.Held.{fresh, rested};
-ghost use Rattle.held.specs.Bytes.{heldBytes, bit, selectionNo, selectionCell, encoded, allZero, flagsFit, selectionEncoded, encodes, isSet, selectionIn, be32, decoded, kept};
+ghost use Rattle.held.specs.Held.{fresh, rested, heldBytes, bit, selectionNo, selectionCell, encoded, allZero, flagsFit, selectionEncoded, encodes, isSet, selectionIn, be32, decoded, kept};
 
 // The record selected for the very next command, if one is.
 pub enum Selection {

@@ -1,6 +1,6 @@
 -- `box_export::poplar_fresh` meets its contract: the fresh box's bytes, if there is room for just these.
 use mathlib.Core.Path.{sym, ap}
-use Rattle.held.specs.Bytes.{bit}
+use Rattle.held.specs.Held.{bit}
 use Rattle.box_export.proofs.Laws.{fresh-written}
 use borrow.Author.Needs.{needs}
 use Rattle.box_export.proofs.poplar_fresh.Statement.{statement}

@@ -1,5 +1,5 @@
 -- Each field is read where the model has it.
-use Rattle.held.specs.Bytes.{decoded}
+use Rattle.held.specs.Held.{decoded}
 use borrow.Author.Needs.{needs}
 use Rattle.held.proofs.channel_in.Statement.{statement}
 use Rattle.held.proofs.channel_in.Tie as tie

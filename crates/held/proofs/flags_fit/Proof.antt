@@ -1,6 +1,6 @@
 -- Each return stands behind the flags looked at before it.
 use Rattle.cells.proofs.Tests.{tests}
-use Rattle.held.specs.Bytes.{flagsFit}
+use Rattle.held.specs.Held.{flagsFit}
 use borrow.Author.Needs.{needs}
 use Rattle.held.proofs.flags_fit.Statement.{statement}
 use Rattle.held.proofs.flags_fit.Tie as tie

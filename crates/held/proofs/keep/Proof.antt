@@ -1,5 +1,5 @@
 -- By the test of the bytes, the state that they say, or that they are wrong.
-use Rattle.held.specs.Bytes.{kept}
+use Rattle.held.specs.Held.{kept}
 use borrow.Author.Needs.{needs}
 use Rattle.held.proofs.keep.Statement.{statement}
 use Rattle.held.proofs.keep.Tie as tie

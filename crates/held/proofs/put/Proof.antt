@@ -3,7 +3,7 @@ use mathlib.Core.Path.{_≡_, sym}
 use native.Mathlib.Omega.{arith}
 use lib.ListN.{length}
 use borrow.Author.Tests.{eq-eqb, ne-eqb}
-use Rattle.held.specs.Bytes.{heldBytes}
+use Rattle.held.specs.Held.{heldBytes}
 use Rattle.held.proofs.Laws.{both-stored}
 use borrow.Author.Needs.{needs}
 use Rattle.held.proofs.put.Statement.{statement}

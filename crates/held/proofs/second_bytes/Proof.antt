@@ -1,6 +1,6 @@
 -- Each number is taken apart as the model has it.
 use Rattle.cells.specs.Cells.{part}
-use Rattle.held.specs.Bytes.{encoded}
+use Rattle.held.specs.Held.{encoded}
 use borrow.Author.Needs.{needs}
 use Rattle.held.proofs.second_bytes.Statement.{statement}
 use Rattle.held.proofs.second_bytes.Tie as tie

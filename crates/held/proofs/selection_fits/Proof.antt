@@ -1,6 +1,6 @@
 -- The selection is read once; each return stands behind the tests of it.
 use Rattle.cells.proofs.Tests.{tests}
-use Rattle.held.specs.Bytes.{selectionEncoded}
+use Rattle.held.specs.Held.{selectionEncoded}
 use borrow.Author.Needs.{needs}
 use Rattle.held.proofs.selection_fits.Statement.{statement}
 use Rattle.held.proofs.selection_fits.Tie as tie

@@ -1,5 +1,5 @@
 -- Each return stands behind the tests that the model makes.
-use Rattle.held.specs.Bytes.{selectionIn}
+use Rattle.held.specs.Held.{selectionIn}
 use Rattle.cells.proofs.Tests.{tests}
 use borrow.Author.Needs.{needs}
 use Rattle.held.proofs.selection_in.Statement.{statement}

@@ -1,6 +1,6 @@
 -- The byte is read, and tested as the model tests it.
 use mathlib.Core.Path.{ap}
-use Rattle.held.specs.Bytes.{isSet}
+use Rattle.held.specs.Held.{isSet}
 use borrow.Author.Needs.{needs}
 use Rattle.held.proofs.set_at.Statement.{statement}
 use Rattle.held.proofs.set_at.Tie as tie

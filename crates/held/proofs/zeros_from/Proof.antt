@@ -2,7 +2,7 @@
 use Prim.Native.Nat.{_-_}
 use mathlib.Core.Path.{_≡_, refl, sym, _∙_}
 use lib.ListN.{length, drop}
-use Rattle.held.specs.Bytes.{allZero}
+use Rattle.held.specs.Held.{allZero}
 use Rattle.held.proofs.Laws.{zero-seen, other-seen, all-seen}
 use borrow.Author.Needs.{needs}
 use Rattle.held.proofs.zeros_from.Statement.{statement}
