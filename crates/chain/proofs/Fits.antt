@@ -25,9 +25,9 @@ use Rattle.chain.specs.Legal.{keys, positionFits, channelFits, selection
 -- ---- where the head stands
 
 module _ (g : Shape) (s : Position) where
-  pub stands-on : positionFits g s ≡ true → Tracks.On g (s .cylinder) (s .head)
+  pub position-on : positionFits g s ≡ true → Tracks.On g (s .cylinder) (s .head)
   unfolding positionFits
-  stands-on e =
+  position-on e =
       let f = second-of (cylinderOn g (s .cylinder)) _ e in
       record { cylinder = ltb-true _ _ (first-of (cylinderOn g (s .cylinder)) _ e); head = ltb-true _ _ (first-of (headOn g (s .head)) _ f) }
 

@@ -42,7 +42,7 @@ use Rattle.command.proofs.Planned.{takesRecord, isR0}
 use Rattle.command.proofs.Plans.{selectsOne, Leaves, NoMarker, TaskOn, PlanOn, PlanFree, plan-on, none-free, r0-free}
 use Rattle.command.proofs.Pieces.{PiecesOn, length-to-end, format-is, update-on}
 use Rattle.chain.specs.Legal.{positionFits, ordersFit}
-use Rattle.chain.proofs.Fits.{stands-on, place-in, position-fits, mask-legal, selected-on, ordered-fit}
+use Rattle.chain.proofs.Fits.{position-on, place-in, position-fits, mask-legal, selected-on, ordered-fit}
 
 -- ---- what the table's rows have in common
 
@@ -129,7 +129,7 @@ module _ (g : Shape) (tr : Tracks) (s : Position) (o : Orders) (code : ℕ) (v :
   checks-left : (l : List TrackArea) (row : Row) → Fine (checkTurn s o l row)
   unfolding checkTurn withSense positionAt lay
   checks-left l row = record {
-    standing = position-fits g _ (stands-on g s ok) (place-in g s ok);
+    standing = position-fits g _ (position-on g s ok) (place-in g s ok);
     pieces = tt;
     chosen = here refl refl fit;
   }
@@ -150,7 +150,7 @@ module _ (g : Shape) (tr : Tracks) (s : Position) (o : Orders) (code : ℕ) (v :
         → PiecesOn (s .head) l → Leaves (marks (lay l t)) (r .selects) (k′ .selection) → Fine (endTurnAt x k′ e m l whole)
     unfolding endTurnAt positionAfter positionAt ordersAfter after sight
     ends-left k′ e m l whole h p q on-track sel =
-        let there = stands-on g s ok in
+        let there = position-on g s ok in
         record {
           standing = position-fits g _ (record { cylinder = there .cylinder; head = subst (λ z. z .0 < g .heads) (sym h) (there .head) }) p;
           pieces = on-track;
@@ -185,7 +185,7 @@ module _ (g : Shape) (tr : Tracks) (s : Position) (o : Orders) (code : ℕ) (v :
     unfolding soughtBy
     sought-on Seeking.Seek = seek-to-on g _ _ _
     sought-on Seeking.SeekCylinder = seek-to-on g _ _ _
-    sought-on Seeking.SeekHead = seek-head-on g (s .cylinder) (stands-on g s ok .cylinder) _
+    sought-on Seeking.SeekHead = seek-head-on g (s .cylinder) (position-on g s ok .cylinder) _
 
     addressed-on : (q : Seeking) → SoughtOn g (addressed g q (s .cylinder) v)
     unfolding addressed
@@ -197,7 +197,7 @@ module _ (g : Shape) (tr : Tracks) (s : Position) (o : Orders) (code : ℕ) (v :
       where
         go : (b : Bool) → legal byte ≡ b → Fine (pick b (pick (o .«mask_set») (failTurn x Row.SecondMask) (maskedTurn x byte)) (failTurn x Row.BadMask))
         go true e =
-            let there = stands-on g s ok in
+            let there = position-on g s ok in
             pick-all Fine (o .«mask_set») (fails-left Row.SecondMask)
             (record {
               standing = position-fits g _ (record { cylinder = there .cylinder; head = subst (λ z. z .0 < g .heads) (sym (on .here)) (there .head) }) (on .place);

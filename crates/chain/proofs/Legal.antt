@@ -26,7 +26,7 @@ use Rattle.table.specs.Table.{controls, searches, reads, writes, find, ruleOf}
 use Rattle.command.proofs.Pieces.{length-laid}
 use Rattle.chain.specs.Step.{under, trackUnder, next, tracksOf, layOn, stops, jumped, turnOf, settled, obeyed, stepBy, step}
 use Rattle.chain.specs.Legal.{positionFits, channelFits, selectionFits, ordersFit, Legal}
-use Rattle.chain.proofs.Fits.{stands-on, key-in, channel-fits, held-fits, standing, channeled, ordered}
+use Rattle.chain.proofs.Fits.{position-on, key-in, channel-fits, held-fits, standing, channeled, ordered}
 use Rattle.chain.proofs.Left.{Left, Chosen, anywhere, here, command-left}
 use Rattle.chain.proofs.Pack.{laid-on}
 
@@ -52,14 +52,14 @@ fresh-channel : (s : Position) → channelFits (rested s .channel) ≡ true
 unfolding rested fresh freshChannel channelFits
 fresh-channel s = refl
 
-fresh-stands : (g : Shape) (s : Position) → positionFits g s ≡ true → positionFits g (rested s .position) ≡ true
+fresh-position : (g : Shape) (s : Position) → positionFits g s ≡ true → positionFits g (rested s .position) ≡ true
 unfolding rested
-fresh-stands g s e = e
+fresh-position g s e = e
 
 module _ (g : Shape) (w : World) (L : Legal g w) where
   pub inside : under g (w .held) + trackCells ≤ length (w .cells)
   unfolding under
-  inside = start-inside g _ _ (stands-on g (w .held .position) (standing g w L)) (w .cells) (L .whole)
+  inside = start-inside g _ _ (position-on g (w .held .position) (standing g w L)) (w .cells) (L .whole)
 
   pub track-whole : Hunt.WholeTrack (trackUnder g w)
   unfolding trackUnder
@@ -71,7 +71,7 @@ module _ (g : Shape) (w : World) (L : Legal g w) where
   rests s k st c l m = record {
     whole = record { cylinders = L .whole .cylinders; heads = L .whole .heads; count = m ∙ L .whole .count };
     room = omega (arith, L .room);
-    held = held-fits g _ (fresh-stands g s k) (fresh-channel s) (fresh-orders _ s);
+    held = held-fits g _ (fresh-position g s k) (fresh-channel s) (fresh-orders _ s);
   }
 
   stops-legal : (cause : Cause) → Legal g (stops w cause)

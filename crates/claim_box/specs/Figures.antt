@@ -120,7 +120,7 @@ pub record Figures : Type 0 where
   pub one-search : gone 1 .answer ≡ Answer.AllowanceUsed
   pub one-search-next : nextOf (gone 1) ≡ 272
   pub one-search-whole : gone 1 .left .held .orders .whole ≡ true
-  pub one-search-stands : positionLeft (gone 1) ≡ positionOn 0 0 1 0 0
+  pub one-search-position : positionLeft (gone 1) ≡ positionOn 0 0 1 0 0
   pub one-end : gone 2 .answer ≡ Answer.ChainEnded
   pub one-status : statusOf (gone 2) ≡ 0x00 ∷ 0x00 ∷ 0x01 ∷ 0x18 ∷ 0x0C ∷ 0x00 ∷ 0x00 ∷ 0x01 ∷ []
   -- 2. R0 with DL 8 ends at cell 27; then DL 4,054 without key has room 0 and fits; 4,055 has room -1
@@ -149,17 +149,17 @@ pub record Figures : Type 0 where
   -- 6. on a full pack cylinder 202, head 9 accepted
   pub six : seekTo fullPack 0 (cylinder 202) (head 9) ≡ Sought.To (cylinder 202) (head 9)
   pub six-going : OnFullPack (λ cells. seekWord cells 202 9 .answer ≡ Answer.AllowanceUsed)
-  pub six-stands : OnFullPack (λ cells. positionLeft (seekWord cells 202 9) ≡ positionOn 202 9 0 0 0)
+  pub six-position : OnFullPack (λ cells. positionLeft (seekWord cells 202 9) ≡ positionOn 202 9 0 0 0)
   pub six-head : seekHead fullPack (cylinder 202) (head 9) ≡ Sought.To (cylinder 202) (head 9)
   -- 7. 203 or head 10 not
   pub seven-cylinder : seekTo fullPack 0 (cylinder 203) (head 9) ≡ Sought.Fails Row.BadSeek
   pub seven-cylinder-end : OnFullPack (λ cells. seekWord cells 203 9 .answer ≡ Answer.ChainEnded)
   pub seven-cylinder-status : OnFullPack (λ cells. statusOf (seekWord cells 203 9) ≡ 0x00 ∷ 0x00 ∷ 0x01 ∷ 0x08 ∷ 0x0E ∷ 0x00 ∷ 0x00 ∷ 0x00 ∷ [])
-  pub seven-cylinder-stands : OnFullPack (λ cells. positionLeft (seekWord cells 203 9) ≡ positionOn 100 5 7 0x81 0x00)
+  pub seven-cylinder-position : OnFullPack (λ cells. positionLeft (seekWord cells 203 9) ≡ positionOn 100 5 7 0x81 0x00)
   pub seven-head : seekTo fullPack 0 (cylinder 202) (head 10) ≡ Sought.Fails Row.BadSeek
   pub seven-head-end : OnFullPack (λ cells. seekWord cells 202 10 .answer ≡ Answer.ChainEnded)
   pub seven-head-status : OnFullPack (λ cells. statusOf (seekWord cells 202 10) ≡ 0x00 ∷ 0x00 ∷ 0x01 ∷ 0x08 ∷ 0x0E ∷ 0x00 ∷ 0x00 ∷ 0x00 ∷ [])
-  pub seven-head-stands : OnFullPack (λ cells. positionLeft (seekWord cells 202 10) ≡ positionOn 100 5 7 0x81 0x00)
+  pub seven-head-position : OnFullPack (λ cells. positionLeft (seekWord cells 202 10) ≡ positionOn 100 5 7 0x81 0x00)
   pub seven-head-only : seekHead fullPack (cylinder 202) (head 10) ≡ Sought.Fails Row.BadSeek
   -- 8. ID 0000000002 on track against 0000000001: high, not equal
   pub eight : compared (number (0 ∷ 0 ∷ 0 ∷ 0 ∷ 2 ∷ [])) (number (0 ∷ 0 ∷ 0 ∷ 0 ∷ 1 ∷ [])) ≡ Compared.High

@@ -110,15 +110,15 @@ pub record Reading : Type 0 where
   pub search-key : readsAfter 3 (begun stocked (chained 0x29 2) 1) ≡ under0 (oneCount ∷ oneKey ∷ [])
   pub space-record : readsAfter 3 (begun stocked (chained 0x0F 1) 1) ≡ []
   -- .. satisfied by R0, at once
-  pub read-data-zero : readsAfter 1 (begun stocked (chained 0x06 8) 0) ≡ under0 (r0Count ∷ r0Data ∷ [])
+  pub read-data-r0 : readsAfter 1 (begun stocked (chained 0x06 8) 0) ≡ under0 (r0Count ∷ r0Data ∷ [])
   -- Read Count: the count only, of the next record, so that R0 is passed
   pub read-count : readsAfter 0 (begun stocked (oneWord 0x12 8) 0) ≡ under0 (oneCount ∷ [])
   -- Read R0: not the home address; the key if there is one
-  pub read-zero : readsAfter 0 (begun stocked (oneWord 0x16 18) 0) ≡ under0 (r0Count ∷ r0Key ∷ r0Data ∷ [])
-  pub read-zero-keyless : readsAfter 0 (begun homeAndR0 (oneWord 0x16 16) 0) ≡ under0 (r0Count ∷ area Part.Data 18 8 ∷ [])
+  pub read-r0 : readsAfter 0 (begun stocked (oneWord 0x16 18) 0) ≡ under0 (r0Count ∷ r0Key ∷ r0Data ∷ [])
+  pub read-r0-keyless : readsAfter 0 (begun homeAndR0 (oneWord 0x16 16) 0) ≡ under0 (r0Count ∷ area Part.Data 18 8 ∷ [])
   -- Read CKD; and of a record with DL 0, the next after record 2 was found
-  pub read-all : readsAfter 0 (begun stocked (oneWord 0x1E 13) 0) ≡ under0 (oneCount ∷ oneKey ∷ oneData ∷ [])
-  pub read-all-empty : readsAfter 5 (begun stocked (chained 0x1E 12) 2) ≡ under0 (threeCount ∷ threeKey ∷ [])
+  pub read-count-key-data : readsAfter 0 (begun stocked (oneWord 0x1E 13) 0) ≡ under0 (oneCount ∷ oneKey ∷ oneData ∷ [])
+  pub read-count-key-data-empty : readsAfter 5 (begun stocked (chained 0x1E 12) 2) ≡ under0 (threeCount ∷ threeKey ∷ [])
   -- a row that ends a command first, so that it reads nothing: no marker on the track, 00 02
   pub no-marker : readsAfter 0 (begun homeAndR0 (oneWord 0x29 2) 0) ≡ []
   pub no-marker-sense : positionLeft (goes onePack 1 (begun homeAndR0 (oneWord 0x29 2) 0)) .sense ≡ sense 0x00 0x02
@@ -181,7 +181,7 @@ pub record NotEmpty : Type 0 where
   pub count-end : meets (countOfOne hurtCount) .answer ≡ Answer.ChainEnded
   pub count-storage : meets (countOfOne hurtCount) .left .storage
       ≡ overlay (countOfOne hurtCount .storage) statusAt (0x00 ∷ 0x00 ∷ 0x01 ∷ 0x08 ∷ 0x0E ∷ 0x00 ∷ 0x00 ∷ 0x08 ∷ [])
-  pub count-stands : positionLeft (meets (countOfOne hurtCount)) ≡ positionOn 0 0 0 0x08 0x80
+  pub count-position : positionLeft (meets (countOfOne hurtCount)) ≡ positionOn 0 0 0 0x08 0x80
   pub count-cells : meets (countOfOne hurtCount) .left .cells ≡ hurtCount
   -- .. and without the damage its 8 bytes
   pub count-undamaged-end : meets (countOfOne stocked) .answer ≡ Answer.ChainEnded
@@ -192,7 +192,7 @@ pub record NotEmpty : Type 0 where
   pub data-end : meets (dataOfOne hurtData) .answer ≡ Answer.ChainEnded
   pub data-storage : meets (dataOfOne hurtData) .left .storage
       ≡ overlay (dataOfOne hurtData .storage) statusAt (0x00 ∷ 0x00 ∷ 0x01 ∷ 0x08 ∷ 0x0E ∷ 0x00 ∷ 0x00 ∷ 0x03 ∷ [])
-  pub data-stands : positionLeft (meets (dataOfOne hurtData)) ≡ positionOn 0 0 0 0x08 0x00
+  pub data-position : positionLeft (meets (dataOfOne hurtData)) ≡ positionOn 0 0 0 0x08 0x00
   pub data-cells : meets (dataOfOne hurtData) .left .cells ≡ hurtData
   -- .. and without the damage its 3 bytes
   pub data-undamaged-end : meets (dataOfOne stocked) .answer ≡ Answer.ChainEnded

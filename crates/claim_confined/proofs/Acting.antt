@@ -141,16 +141,16 @@ module _ (t : Tracks) (s : Position) (o : Orders) (r : Rule) where
 
   -- ---- the record that a write takes
 
-  pub aimed-zero : (a : Aim) → isR0 a ≡ true → aimed r (marksOf t) s o a ≡ onRecord r o (s .head) Spot.R0 0
+  pub aimed-r0 : (a : Aim) → isR0 a ≡ true → aimed r (marksOf t) s o a ≡ onRecord r o (s .head) Spot.R0 0
   unfolding aimed isR0
-  aimed-zero Aim.Stays e = absurd (false≢true e)
-  aimed-zero Aim.HomeAddress e = absurd (false≢true e)
-  aimed-zero Aim.R0 e = refl
-  aimed-zero Aim.NextId e = absurd (false≢true e)
-  aimed-zero Aim.Next e = absurd (false≢true e)
-  aimed-zero Aim.NextForData e = absurd (false≢true e)
-  aimed-zero Aim.NextForKey e = absurd (false≢true e)
-  aimed-zero Aim.Selected e = absurd (false≢true e)
+  aimed-r0 Aim.Stays e = absurd (false≢true e)
+  aimed-r0 Aim.HomeAddress e = absurd (false≢true e)
+  aimed-r0 Aim.R0 e = refl
+  aimed-r0 Aim.NextId e = absurd (false≢true e)
+  aimed-r0 Aim.Next e = absurd (false≢true e)
+  aimed-r0 Aim.NextForData e = absurd (false≢true e)
+  aimed-r0 Aim.NextForKey e = absurd (false≢true e)
+  aimed-r0 Aim.Selected e = absurd (false≢true e)
 
   pub aimed-selected : (a : Aim) → isSelected a ≡ true → aimed r (marksOf t) s o a ≡ onSelected r o (s .head) (o .selection) (Refuses Row.WrongBefore)
   unfolding aimed isSelected

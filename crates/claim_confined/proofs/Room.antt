@@ -30,7 +30,7 @@ use Rattle.channel.specs.Channel.{bytesMoved}
 use Rattle.claim_confined.specs.Confined as Confined
 use Rattle.claim_confined.specs.Confined.{bars, hasRoom, NoRowBefore, RoomKept}
 use Rattle.claim_confined.proofs.Acting as Acting
-use Rattle.claim_confined.proofs.Acting.{onSelection, aptWrite, apt-write, bars-not, Acting, acting-takes, aimed-zero, aimed-selected, obeys-all}
+use Rattle.claim_confined.proofs.Acting.{onSelection, aptWrite, apt-write, bars-not, Acting, acting-takes, aimed-r0, aimed-selected, obeys-all}
 use Rattle.claim_confined.proofs.Commands.{nothing-laid}
 
 -- a new record is as long with one flag as with another
@@ -90,7 +90,7 @@ module _ (g : Shape) (t : Tracks) (s : Position) (o : Orders) (code : ℕ) (v : 
   unfolding hasRoom aptWrite onSelection Confined.takes onSelected
   aims-record Write.HomeAddress a p e = absurd (false≢true (sym e))
   aims-record Write.R0 a p e =
-      aimed-zero t s o r (r .aim) a ∙ ap (λ (y : Spot). onRecord r o (s .head) y 0) (spot-same Spot.R0 spot p)
+      aimed-r0 t s o r (r .aim) a ∙ ap (λ (y : Spot). onRecord r o (s .head) y 0) (spot-same Spot.R0 spot p)
   aims-record Write.CountKeyData a p e =
       aimed-selected t s o r (r .aim) (first-of (isSelected (r .aim)) _ a)
       ∙ ap (λ (y : Selection). onSelected r o (s .head) y (Refuses Row.WrongBefore)) p

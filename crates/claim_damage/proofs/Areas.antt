@@ -118,10 +118,10 @@ module _ (t : List ℕ) where
 
   pub begun-record : Sound t → (r : Spot) → IsRecord t r → Record t (countFirst r)
   unfolding countFirst
-  begun-record S R0 b = S .zero
+  begun-record S R0 b = S .r0
   begun-record S (Marker p) b =
       let B = begun-marker p b in
-      begins (S .rest) p (unmarked 7 p (S .zero) (B .0) (B .1)) (B .1)
+      begins (S .rest) p (unmarked 7 p (S .r0) (B .0) (B .1)) (B .1)
 
   -- of two records one ends before the other begins
   pub begun-apart : Sound t → (r r′ : Spot) → IsRecord t r → IsRecord t r′ → countFirst r < countFirst r′ → endAt t (countFirst r) < countFirst r′

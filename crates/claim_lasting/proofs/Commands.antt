@@ -38,7 +38,7 @@ use Rattle.command.proofs.Pieces.{format-is}
 use Rattle.sound.specs.Sound.{Sound}
 use Rattle.claim_damage.specs.Damage.{IsRecord}
 use Rattle.claim_lasting.specs.Lasting.{HomeOnly, Lasts, NewBack, ReadsBack, Took, Permitted, Leaves, unchanged, written}
-use Rattle.claim_lasting.proofs.Format.{flag-of-r0, home-back, home-lasts, zero-back, zero-lasts, record-back, record-lasts}
+use Rattle.claim_lasting.proofs.Format.{flag-of-r0, home-back, home-lasts, r0-back, r0-lasts, record-back, record-lasts}
 use Rattle.claim_lasting.proofs.Update.{updated, update-is, update-lasts, update-back}
 use Rattle.claim_lasting.proofs.Works.{permitted-plan, OnSelected, Needs, write-turn}
 
@@ -100,9 +100,9 @@ module _ (r : Rule) (tr : Tracks) (s : Position) (o : Orders) (v : List ℕ) (lo
     unfolding r0Turn sight Took Lasts ReadsBack
     r0-good flag e home =
         new-good Write.R0 Spot.R0 tt k r0First (newCounts flag v) (recordCells (newCounts flag v)) (newRecord flag v) (length-new flag v)
-        (λ h. zero-lasts t v long b flag h e home)
+        (λ h. r0-lasts t v long b flag h e home)
         (λ h. subst (λ (f : ℕ). NewBack f v (formatted t r0First (newRecord flag v)) r0First) e
-        (zero-back t v long b flag h (omega (arith, e, flag-of-r0 (homeFlag t)))))
+        (r0-back t v long b flag h (omega (arith, e, flag-of-r0 (homeFlag t)))))
 
     record-good : (spot : Spot) → o .selection ≡ On spot → IsRecord t spot
         → Good Write.CountKeyData (recordTurn x (endBy (countFirst spot) (countsAt t (countFirst spot))) (flagAfter (countsAt t (countFirst spot) .flag)))
@@ -218,46 +218,46 @@ module _ (g : Shape) (t : Tracks) (s : Position) (o : Orders) (v : List ℕ) (al
       ap (λ (p : Plan). readyTurn g t s o v (planReads t r p) (readyBy t 0x19 r s o p)) (permitted-plan r (marksOf t) s o home-permitted)
 
   module _ (before : licensed Licence.HomeAddress o ≡ true) (home : readable (t (s .head)) homeArea ≡ true) where
-    zero-permitted : Permitted (ruleOf 0x15) o
+    r0-permitted : Permitted (ruleOf 0x15) o
     unfolding ruleOf find controls searches reads writes
-    zero-permitted = permits o allowed (ruleOf 0x15) refl before
+    r0-permitted = permits o allowed (ruleOf 0x15) refl before
 
-    zero-is : command g t s o 0x15 v ≡ r0Turn (writeSight t s o 0x15 r0First (On Spot.R0) v) (flagOfR0 (homeFlag (t (s .head))))
+    r0-is : command g t s o 0x15 v ≡ r0Turn (writeSight t s o 0x15 r0First (On Spot.R0) v) (flagOfR0 (homeFlag (t (s .head))))
     unfolding command ruleTurn aimed onRecord tallies countFirst readyTurn readyBy hasRead gets areasOf onHead countsIn allRead seenOf seenWith actTurn writeTurn sight areasRead ruleOf find controls searches reads writes
-    zero-is =
+    r0-is =
         let k : Task = task (s .head) r0First (On Spot.R0) 0 in
         let r : Rule = ruleOf 0x15 in
-        ap (λ (p : Plan). readyTurn g t s o v (planReads t r p) (readyBy t 0x15 r s o p)) (permitted-plan r (marksOf t) s o zero-permitted)
+        ap (λ (p : Plan). readyTurn g t s o v (planReads t r p) (readyBy t 0x15 r s o p)) (permitted-plan r (marksOf t) s o r0-permitted)
         ∙ ap (λ (y : Got). readyTurn g t s o v (planReads t r (Works k)) (hasRead 0x15 r s o k y))
         (first-picked (readable (t (s .head)) homeArea) (Sees noCounts) (Fails (rowOf (homeArea .part))) home)
 
     -- Write R0 after home address work, with room
-    pub zero-sound : length (t (s .head)) ≡ trackCells → Bytes v
+    pub r0-sound : length (t (s .head)) ≡ trackCells → Bytes v
         → fits r0First (recordCells (newCounts (flagOfR0 (homeFlag (t (s .head)))) v)) ≡ true → Sound (lay (command g t s o 0x15 v .lays) (t (s .head)))
     unfolding r0Turn newTurn endTurnAt sight Lasts
-    zero-sound long b room =
+    r0-sound long b room =
         let flag : ℕ = flagOfR0 (homeFlag (t (s .head))) in
         let k : Task = task (s .head) r0First (On Spot.R0) 0 in
         let x : Turn = r0Turn (writeSight t s o 0x15 r0First (On Spot.R0) v) flag in
         let e : x .ending ≡ Normal = ap (λ (y : Turn). y .ending) (first-picked (fits r0First (recordCells (newCounts flag v))) _ _ room) in
-        subst (λ (y : Turn). Sound (lay (y .lays) (t (s .head)))) (sym zero-is)
-        (normal-lasts _ Write.R0 o v (t (s .head)) x e (r0-good (ruleOf 0x15) t s o v long b zero-permitted 0x15 k noCounts refl flag refl home))
+        subst (λ (y : Turn). Sound (lay (y .lays) (t (s .head)))) (sym r0-is)
+        (normal-lasts _ Write.R0 o v (t (s .head)) x e (r0-good (ruleOf 0x15) t s o v long b r0-permitted 0x15 k noCounts refl flag refl home))
 
 module _ (g : Shape) (t : Tracks) (s : Position) (o : Orders) (v : List ℕ) (allowed : barsWrite (o .mask) HomeOrR0 ≡ false) where
   -- after the turn x, on the tracks t′ that it left, Write R0 with the bytes u, which has room
-  abbrev pub ThenZero : Turn → Type 0
-  ThenZero x = (t′ : Tracks) → t′ (s .head) ≡ lay (x .lays) (t (s .head)) → (u : List ℕ) → Bytes u
+  abbrev pub ThenR0 : Turn → Type 0
+  ThenR0 x = (t′ : Tracks) → t′ (s .head) ≡ lay (x .lays) (t (s .head)) → (u : List ℕ) → Bytes u
       → fits r0First (recordCells (newCounts (flagOfR0 (homeFlag (t′ (s .head)))) u)) ≡ true
       → Sound (lay (command g t′ (x .position) (x .orders) 0x15 u .lays) (t′ (s .head)))
 
-  then-zero : length (t (s .head)) ≡ trackCells → Bytes v → ThenZero (homeTurn (writeSight t s o 0x19 homePlace Nothing v))
+  then-r0 : length (t (s .head)) ≡ trackCells → Bytes v → ThenR0 (homeTurn (writeSight t s o 0x19 homePlace Nothing v))
   unfolding homeTurn endTurn endTurnAt positionAfter positionAt ordersAfter after ordersOf sight Lasts licensed homeDone
-  then-zero long b t′ e u b′ room =
+  then-r0 long b t′ e u b′ room =
       let x : Turn = homeTurn (writeSight t s o 0x19 homePlace Nothing v) in
       let H : HomeOnly (t′ (s .head)) =
       subst HomeOnly (sym e) (normal-lasts _ Write.HomeAddress o v (t (s .head)) x refl
       (home-good (ruleOf 0x19) t s o v long b (home-permitted g t s o v allowed) 0x19 (task (s .head) homePlace Nothing 0) noCounts refl)) in
-      zero-sound g t′ (x .position) (x .orders) u allowed refl (H .home) (H .long) b′ room
+      r0-sound g t′ (x .position) (x .orders) u allowed refl (H .home) (H .long) b′ room
 
-  pub home-then-zero : length (t (s .head)) ≡ trackCells → Bytes v → ThenZero (command g t s o 0x19 v)
-  home-then-zero long b = subst ThenZero (sym (home-is g t s o v allowed)) (then-zero long b)
+  pub home-then-r0 : length (t (s .head)) ≡ trackCells → Bytes v → ThenR0 (command g t s o 0x19 v)
+  home-then-r0 long b = subst ThenR0 (sym (home-is g t s o v allowed)) (then-r0 long b)

@@ -108,7 +108,7 @@ module _ (t v : List ℕ) (l : length t ≡ 4096) (b : Bytes v) where
   -- R0's count would begin with a gap
   home-unsound : Sound homeLeft → ⊥
   home-unsound S =
-      let e = cell-recorded homeLeft (countArea 7) 7 (S .zero .count) (omega arith, omega arith) in
+      let e = cell-recorded homeLeft (countArea 7) 7 (S .r0 .count) (omega arith, omega arith) in
       omega (arith, eqb-true (getD homeLeft 7 0 / 256) 1 e, home-zeros 7 (omega arith))
 
   pub home-lasts : HomeOnly homeLeft
@@ -126,31 +126,31 @@ unfolding flagOfR0
 flag-of-r0 h = omega arith
 
 module _ (t v : List ℕ) (l : length t ≡ 4096) (b : Bytes v) (flag : ℕ) (fit : 7 + recordCells (newCounts flag v) ≤ 4096) where
-  abbrev zeroLeft : List ℕ
-  zeroLeft = formatted t 7 (newRecord flag v)
+  abbrev r0Left : List ℕ
+  r0Left = formatted t 7 (newRecord flag v)
 
-  zero-fits : 7 + length (newRecord flag v) ≤ length t
-  zero-fits = omega (arith, length-new flag v)
+  r0-fits : 7 + length (newRecord flag v) ≤ length t
+  r0-fits = omega (arith, length-new flag v)
 
-  zero-has : Has zeroLeft 7 (newRecord flag v)
-  zero-has = formatted-has t 7 (newRecord flag v) zero-fits
+  r0-has : Has r0Left 7 (newRecord flag v)
+  r0-has = formatted-has t 7 (newRecord flag v) r0-fits
 
-  pub zero-back : flag < 256 → NewBack flag v zeroLeft 7
-  zero-back f = new-back flag v zeroLeft 7 f b zero-has
+  pub r0-back : flag < 256 → NewBack flag v r0Left 7
+  r0-back f = new-back flag v r0Left 7 f b r0-has
 
-  pub zero-lasts : flag ≡ flagOfR0 (homeFlag t) → readable t homeArea ≡ true → Sound zeroLeft
-  zero-lasts e r =
+  pub r0-lasts : flag ≡ flagOfR0 (homeFlag t) → readable t homeArea ≡ true → Sound r0Left
+  r0-lasts e r =
       let f : flag < 256 = omega (arith, flag-of-r0 (homeFlag t)) in
-      let long : length zeroLeft ≡ length t = length-formatted t 7 (newRecord flag v) zero-fits in
-      let gaps : (i : ℕ) → 7 + length (newRecord flag v) ≤ i → getD zeroLeft i 0 ≡ 0 = formatted-behind t 7 (newRecord flag v) zero-fits in
-      let h : areaCells zeroLeft homeArea ≡ areaCells t homeArea =
-      area-kept t zeroLeft 7 long (formatted-before t 7 (newRecord flag v) zero-fits) homeArea (omega arith) in
+      let long : length r0Left ≡ length t = length-formatted t 7 (newRecord flag v) r0-fits in
+      let gaps : (i : ℕ) → 7 + length (newRecord flag v) ≤ i → getD r0Left i 0 ≡ 0 = formatted-behind t 7 (newRecord flag v) r0-fits in
+      let h : areaCells r0Left homeArea ≡ areaCells t homeArea =
+      area-kept t r0Left 7 long (formatted-before t 7 (newRecord flag v) r0-fits) homeArea (omega arith) in
       record {
         long = long ∙ l;
-        home = same-readable t zeroLeft homeArea h ∙ r;
-        zero = new-record flag v zeroLeft 7 f b zero-has;
-        flag = new-flag flag v zeroLeft 7 f b zero-has gaps ∙ e ∙ ap (λ (x : List ℕ). flagOfR0 (getD x 0 0)) (sym (same-bytes t zeroLeft homeArea h));
-        rest = last flag v zeroLeft 7 f b zero-has gaps _;
+        home = same-readable t r0Left homeArea h ∙ r;
+        r0 = new-record flag v r0Left 7 f b r0-has;
+        flag = new-flag flag v r0Left 7 f b r0-has gaps ∙ e ∙ ap (λ (x : List ℕ). flagOfR0 (getD x 0 0)) (sym (same-bytes t r0Left homeArea h));
+        rest = last flag v r0Left 7 f b r0-has gaps _;
       }
 
 -- ---- 1D
@@ -203,7 +203,7 @@ module _ (t v : List ℕ) (l : length t ≡ 4096) (b : Bytes v) (at f : ℕ) (fi
         record {
           long = long-left ∙ l;
           home = same-readable t recordLeft homeArea home ∙ S .home;
-          zero = record-kept t recordLeft at long-left cells-left 7 (S .zero) h;
+          r0 = record-kept t recordLeft at long-left cells-left 7 (S .r0) h;
           flag = ap (λ (n : Counts). n .flag) e ∙ S .flag
               ∙ ap (λ (x : List ℕ). flagOfR0 (getD x 0 0)) (sym (same-bytes t recordLeft homeArea home));
           rest = subst (λ (n : Counts). Records recordLeft (n .flag) (endBy 7 n)) (sym e) r;
@@ -215,7 +215,7 @@ module _ (t v : List ℕ) (l : length t ≡ 4096) (b : Bytes v) (at f : ℕ) (fi
         stays (omega (arith, p)) (subst (λ (k : ℕ). Records recordLeft (flagAt t 7) k) p (subst (λ (k : ℕ). Records recordLeft k at) q new-last))
     record-lasts (Marker s) B p q =
         let m = begun-marker t s B in
-        let u : endAt t 7 ≤ s = unmarked t 7 s (S .zero) (m .0) (m .1) in
+        let u : endAt t 7 ≤ s = unmarked t 7 s (S .r0) (m .0) (m .1) in
         stays (omega (arith, u, p, count-before t (s + 1)))
         (records-kept t recordLeft at long-left cells-left (S .rest) s u (m .1) (omega (arith, p))
         (subst (λ (k : ℕ). Records recordLeft (flagAt t (s + 1)) k) p (subst (λ (k : ℕ). Records recordLeft k at) q new-last)))

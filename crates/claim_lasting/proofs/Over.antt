@@ -136,7 +136,7 @@ module _ (t : List ℕ) (x : Area) (w : List ℕ) (b : Bytes w) (e : length w �
         record {
           long = over-long ∙ S .long;
           home = all-readable homeArea ownHome;
-          zero = record-kept R0 refl;
+          r0 = record-kept R0 refl;
           flag = ap (λ (n : Counts). n .flag) e ∙ S .flag
               ∙ ap (λ (l : List ℕ). flagOfR0 (getD l 0 0)) (sym (same-bytes t over homeArea home-kept));
           rest = subst (λ (n : Counts). Records over (n .flag) (endBy 7 n)) (sym e) (records-kept (omega arith) (S .rest));

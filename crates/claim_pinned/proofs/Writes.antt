@@ -14,7 +14,7 @@ pub writes : WritesNeed
 unfolding command oneOf follows
 writes = record {
   home = record { licence = λ o. refl; mask = λ m p. refl };
-  zero = record { licence = λ o. simp (last) refl; mask = λ m p. refl };
+  r0 = record { licence = λ o. simp (last) refl; mask = λ m p. refl };
   count-key-data = record { licence = λ o. simp (last) refl; mask = λ m p. refl };
   body = record { licence = λ o. simp (last) refl; mask = λ m p. refl };
   key-and-body = record { licence = λ o. simp (last) refl; mask = λ m p. refl };

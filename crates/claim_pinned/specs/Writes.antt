@@ -49,7 +49,7 @@ pub record WritesNeed : Type 0 where
   -- Write HA needs mask 11
   pub home : Needs 0x19 anything barredBut11
   -- R0 follows Write HA or a Search HA equal over 4 bytes
-  pub zero : Needs 0x15 (follows (0x19 ∷ []) (0x39 ∷ [])) barredBut11
+  pub r0 : Needs 0x15 (follows (0x19 ∷ []) (0x39 ∷ [])) barredBut11
   -- 1D follows Write R0, 1D, or an equal-only search (31, 29) equal over the whole field
   pub count-key-data : Needs 0x1D (follows (0x15 ∷ 0x1D ∷ []) (0x31 ∷ 0x29 ∷ [])) barredAt01And10
   -- 05 follows 31 or 29 so

@@ -76,9 +76,9 @@ module _ (r : Rule) (m : Marks) (s : Position) (o : Orders) where
   pick-free true spot e = absurd (false≢true (sym e))
   pick-free false spot e = tt
 
-  zero-free : (b : Bool) → NoMarker (pick b (On Spot.R0) Nothing)
-  zero-free true = tt
-  zero-free false = tt
+  r0-chosen : (b : Bool) → NoMarker (pick b (On Spot.R0) Nothing)
+  r0-chosen true = tt
+  r0-chosen false = tt
 
   planned-free : ((spot : Spot) → Taken (m (s .head)) (o .selection) (r .aim) spot → NoMarker (pick (r .selects) (On spot) Nothing))
       → (x : Plan) → Planned (m (s .head)) r s (o .selection) (r .aim) x → PlanFree x
@@ -92,4 +92,4 @@ module _ (r : Rule) (m : Marks) (s : Position) (o : Orders) where
 
   pub r0-free : isR0 (r .aim) ≡ true → PlanFree (planOf r m s o)
   r0-free e =
-      planned-free (λ spot k. subst (λ (y : Spot). NoMarker (pick (r .selects) (On y) Nothing)) (sym (k .zero e)) (zero-free (r .selects))) _ (plan-is m r s o)
+      planned-free (λ spot k. subst (λ (y : Spot). NoMarker (pick (r .selects) (On y) Nothing)) (sym (k .zero e)) (r0-chosen (r .selects))) _ (plan-is m r s o)

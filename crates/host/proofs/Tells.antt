@@ -38,9 +38,9 @@ hears-eq p q r u = λ i. hears (p i) (world (q i) (r i) (u i))
 
 -- ---- the selection
 
-pub spot-zero : (m : List Bool) (s : Spot) → s ≡ R0 → true ≡ spotFits m s
+pub spot-r0 : (m : List Bool) (s : Spot) → s ≡ R0 → true ≡ spotFits m s
 unfolding spotFits
-spot-zero m s e = ap (spotFits m) (sym e)
+spot-r0 m s e = ap (spotFits m) (sym e)
 
 pub spot-marker : (t : List ℕ) (s : Spot) (p : ℕ) (b : Bool) → s ≡ Marker p → b ≡ markAt t p → b ≡ spotFits (marks t) s
 unfolding spotFits

@@ -56,13 +56,13 @@ pub next-on : (m : List Bool) (p : ℕ) → NextOn m (nextRecord m p)
 unfolding nextRecord
 next-on m p = ahead-on m (hunt m p) _ (hunt-on m p) (past-on m (hunt m 7) (hunt-on m 7))
 
-pub zero-on : (m : List Bool) (n : ℕ) → NextOn m (ComesTo R0 n)
+pub r0-on : (m : List Bool) (n : ℕ) → NextOn m (ComesTo R0 n)
 unfolding spotFits
-zero-on m n = refl
+r0-on m n = refl
 
 pub id-on : (m : List Bool) (p : ℕ) → NextOn m (nextId m p)
 unfolding nextId
-id-on m p = pick-all (NextOn m) (ltb p 7) (zero-on m 0) (ahead-on m (hunt m p) _ (hunt-on m p) (zero-on m 1))
+id-on m p = pick-all (NextOn m) (ltb p 7) (r0-on m 0) (ahead-on m (hunt m p) _ (hunt-on m p) (r0-on m 1))
 
 -- ---- its place
 

@@ -22,9 +22,9 @@ module _ (d : List ℕ) (long : length d ≡ 4056) (ok : goodCells 4054 d ≡ tr
   unfolding fullHead homeWith countWith usualR0 cellsWithCheck withCheck cellsOf
   whole = omega arith
 
-  zero-is : Record (fullHead ++ d) 7
+  r0-is : Record (fullHead ++ d) 7
   unfolding fullHead homeWith countWith usualR0 areaCells readable areaBytes countsOf countsAt keyCells keyArea dataArea agrees goodCells withCheck cellsWithCheck bitStep feed byteBits bits check bytesOf cellsOf allBytes part
-  zero-is = record { count = refl; key = λ k. absurd (k refl); body = refl; empty = λ e. let z : _≡_ {A = ℕ} 8 0 = e in absurd (omega arith) }
+  r0-is = record { count = refl; key = λ k. absurd (k refl); body = refl; empty = λ e. let z : _≡_ {A = ℕ} 8 0 = e in absurd (omega arith) }
 
   one-counted : readable (fullHead ++ d) (countArea 29) ≡ true
   unfolding fullHead homeWith countWith usualR0 areaCells readable agrees goodCells withCheck cellsWithCheck bitStep feed byteBits bits check bytesOf cellsOf allBytes part
@@ -52,7 +52,7 @@ module _ (d : List ℕ) (long : length d ≡ 4056) (ok : goodCells 4054 d ≡ tr
 
   filled-sound : Sound (fullHead ++ d)
   unfolding fullHead homeWith countWith usualR0 areaCells readable areaBytes countsOf countsAt keyCells recordCells endBy agrees goodCells withCheck cellsWithCheck bitStep feed byteBits bits check bytesOf cellsOf allBytes part flagOfR0
-  filled-sound = record { long = whole; home = refl; zero = zero-is; flag = refl; rest = rest-are }
+  filled-sound = record { long = whole; home = refl; r0 = r0-is; flag = refl; rest = rest-are }
 
 same-bytes : (n b : ℕ) → b < 256 → Bytes (replicate n b)
 same-bytes zero b h i = omega arith

@@ -51,9 +51,9 @@ is-zero [] e = absurd (false≢true e)
 is-zero (b ∷ []) e = ap (λ (x : ℕ). x ∷ []) (eqb-true b 0 e)
 is-zero (b ∷ b′ ∷ v) e = absurd (false≢true e)
 
-zero-ok : oneZero (0 ∷ []) ≡ true
+r0-ok : oneZero (0 ∷ []) ≡ true
 unfolding oneZero
-zero-ok = refl
+r0-ok = refl
 
 -- ---- a record
 
@@ -81,7 +81,7 @@ is-record t c R =
     key (no z) = ap₂ either (ne-eqb _ _ z) (R .key z)
 
     empty : Dec (countsAt t c .dl ≡ 0) → pick (eqb (countsAt t c .dl) 0) (oneZero (areaBytes t (dataArea c (countsAt t c)))) true ≡ true
-    empty (yes z) = ap₂ (λ (b : Bool) (v : List ℕ). pick b (oneZero v) true) (eq-eqb _ _ z) (R .empty z) ∙ zero-ok
+    empty (yes z) = ap₂ (λ (b : Bool) (v : List ℕ). pick b (oneZero v) true) (eq-eqb _ _ z) (R .empty z) ∙ r0-ok
     empty (no z) = ap (λ (b : Bool). pick b (oneZero (areaBytes t (dataArea c (countsAt t c)))) true) (ne-eqb _ _ z)
 
 -- ---- the records after R0
@@ -140,7 +140,7 @@ soundly-sound t e =
     record {
       long = eqb-true _ _ (first-of (eqb (length t) trackCells) _ e);
       home = first-of (readable t homeArea) _ f;
-      zero = record-is t r0First (first-of (recordOk t r0First) _ g);
+      r0 = record-is t r0First (first-of (recordOk t r0First) _ g);
       flag = eqb-true _ _ (first-of (eqb (flagAt t r0First) (flagOfR0 (homeFlag t))) _ h);
       rest = records-are trackCells t _ _ (second-of (eqb (flagAt t r0First) (flagOfR0 (homeFlag t))) _ h);
     }
@@ -150,6 +150,6 @@ unfolding soundly
 sound-soundly t S =
     ap₂ both (eq-eqb (length t) trackCells (S .long))
     (ap₂ both (S .home)
-    (ap₂ both (is-record t r0First (S .zero))
+    (ap₂ both (is-record t r0First (S .r0))
     (ap₂ both (eq-eqb (flagAt t r0First) (flagOfR0 (homeFlag t)) (S .flag))
     (are-records trackCells t _ _ (omega (arith, S .long)) (S .rest)))))

@@ -32,6 +32,6 @@ pub data Records (t : List ℕ) : ℕ → ℕ → Type 0 where
 pub record Sound (t : List ℕ) : Type 0 where
   pub long : length t ≡ trackCells
   pub home : readable t homeArea ≡ true
-  pub zero : Record t r0First
+  pub r0 : Record t r0First
   pub flag : flagAt t r0First ≡ flagOfR0 (homeFlag t)
   pub rest : Records t (flagAt t r0First) (endAt t r0First)

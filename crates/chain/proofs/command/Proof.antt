@@ -1,7 +1,7 @@
 -- Only the track's cells are lent, they come back in their place, and a command works on that track alone.
 use native.Mathlib.Omega.{arith}
 use Rattle.chain.proofs.Laws.{commanded, lent-serves}
-use Rattle.chain.proofs.Fits.{stands-on, standing}
+use Rattle.chain.proofs.Fits.{position-on, standing}
 use borrow.Author.Needs.{needs}
 use Rattle.chain.proofs.command.Statement.{statement}
 use Rattle.chain.proofs.command.Tie as tie
@@ -9,7 +9,7 @@ use Rattle.chain.proofs.command.Tie as tie
 start-of-requires : tie.Need-start-of-requires
 start-of-requires c κs =
     let p = c .before .before .before .before .before .pre .0 in
-    (p .whole .cylinders, p .whole .heads, stands-on _ _ (standing _ _ p))
+    (p .whole .cylinders, p .whole .heads, position-on _ _ (standing _ _ p))
 
 obey-requires : tie.Need-obey-requires
 obey-requires c κs =

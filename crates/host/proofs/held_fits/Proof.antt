@@ -1,7 +1,7 @@
 -- `host::held_fits` meets its contract: where the head stands, the channel's part, then the orders by the one track that is lent.
 use mathlib.Core.Path.{sym, _∙_}
 use borrow.Author.Tests.{not-true, not-false}
-use Rattle.chain.proofs.Fits.{stands-on}
+use Rattle.chain.proofs.Fits.{position-on}
 use Rattle.host.proofs.Tells.{bad-stands, bad-channel, by-orders}
 use borrow.Author.Needs.{needs}
 use Rattle.host.proofs.held_fits.Statement.{statement}
@@ -26,7 +26,7 @@ start-of-requires c κs =
     let k = c .before .before .before in
     let b = k .before .before .before in
     let s = b .before .before .before .before in
-    (s .pre .cylinders, s .pre .heads, stands-on _ _ (sym (b .before .position-fits .ensures) ∙ not-false _ (b .if1 .left)))
+    (s .pre .cylinders, s .pre .heads, position-on _ _ (sym (b .before .position-fits .ensures) ∙ not-false _ (b .if1 .left)))
 
 add-orders-fit : tie.Need-add-orders-fit
 add-orders-fit c = search needs

@@ -1,5 +1,5 @@
 -- `host::spot_fits` meets its contract: a mark stands for a marker.
-use Rattle.host.proofs.Tells.{spot-zero, spot-marker}
+use Rattle.host.proofs.Tells.{spot-r0, spot-marker}
 use borrow.Author.Needs.{needs}
 use Rattle.host.proofs.spot_fits.Statement.{statement}
 use Rattle.host.proofs.spot_fits.Tie as tie
@@ -14,7 +14,7 @@ is-marker-requires : tie.Need-is-marker-requires
 is-marker-requires c κs = search needs
 
 returns : tie.Need-returns
-returns c = spot-zero _ _ (c .enum-told .given .1)
+returns c = spot-r0 _ _ (c .enum-told .given .1)
 
 returns-2 : tie.Need-returns-2
 returns-2 c = spot-marker _ _ _ _ (c .before .before .spot .given .1) (c .is-marker .ensures)
