@@ -6,6 +6,21 @@ ghost use lib.ListN.{getD};
 ghost use Rattle.cells.specs.Cells.{byteOf};
 ghost use Rattle.areas.specs.Areas.{area, readable, rowOf, homeArea, countArea, countsAt, readCount, keyCells, dataBytes, keyArea, dataArea, recordCells, endBy, needed, flagOfR0, flagAfter};
 
+// The bytes of a check, and its cells.
+pub const CHECK: u32 = 2;
+
+pub const CHECK_CELLS: usize = CHECK as usize;
+// The bytes of a home address, without its check.
+const HOME_BYTES: u32 = 5;
+// The bytes of a count area, without its check, and its cells.
+pub const COUNT_BYTES: u32 = 9;
+
+const COUNT: u32 = COUNT_BYTES + CHECK;
+// Bit 0 of a flag byte, the odd/even bit; bits 6 and 7, which are copied, are below the other.
+const ODD: u8 = 128;
+
+const COPIED: u8 = 4;
+
 // What an area holds.
 pub enum Part {
     Home,
@@ -42,7 +57,7 @@ pub fn is_readable(track: &[u16], a: Area) -> bool
     ensures { λ r. ⌜ r ≡ readable (now (track .entry)) a ⌝ }
 {
     let first = a.first as usize;
-    let end = first + a.bytes as usize + 2;
+    let end = first + a.bytes as usize + CHECK_CELLS;
     end <= track.len() && house_check::good(&track[first..end])
 }
 
@@ -66,14 +81,14 @@ fn area_at(part: Part, first: u32, bytes: u32) -> Area
 pub fn home_area() -> Area
     ensures { λ r. ⌜ r ≡ homeArea ⌝ }
 {
-    area_at(Part::Home, 0, 5)
+    area_at(Part::Home, 0, HOME_BYTES)
 }
 
 // The count area at a cell.
 pub fn count_area(c: u16) -> Area
     ensures { λ r. ⌜ r ≡ countArea c ⌝ }
 {
-    area_at(Part::Count, c as u32, 9)
+    area_at(Part::Count, c as u32, COUNT_BYTES)
 }
 
 // Two bytes of a track as one number.
@@ -114,7 +129,7 @@ pub fn read_count(track: &[u16], c: u16) -> CountRead
 fn key_cells(n: Counts) -> u32
     ensures { λ r. ⌜ (r ≡ keyCells n) × (r < 258) ⌝ }
 {
-    if n.kl == 0 { 0 } else { n.kl as u32 + 2 }
+    if n.kl == 0 { 0 } else { n.kl as u32 + CHECK }
 }
 
 fn data_bytes(n: Counts) -> u32
@@ -127,21 +142,21 @@ fn data_bytes(n: Counts) -> u32
 pub fn key_area(c: u16, n: Counts) -> Area
     ensures { λ r. ⌜ r ≡ keyArea c n ⌝ }
 {
-    area_at(Part::Key, c as u32 + 11, n.kl as u32)
+    area_at(Part::Key, c as u32 + COUNT, n.kl as u32)
 }
 
 // The data area of the record whose count area is at a cell.
 pub fn data_area(c: u16, n: Counts) -> Area
     ensures { λ r. ⌜ r ≡ dataArea c n ⌝ }
 {
-    area_at(Part::Data, c as u32 + 11 + key_cells(n), data_bytes(n))
+    area_at(Part::Data, c as u32 + COUNT + key_cells(n), data_bytes(n))
 }
 
 // How many cells a record takes, its marker not counted.
 pub fn record_cells(n: Counts) -> u32
     ensures { λ r. ⌜ (r ≡ recordCells n) × (r < 65806) ⌝ }
 {
-    11 + key_cells(n) + data_bytes(n) + 2
+    COUNT + key_cells(n) + data_bytes(n) + CHECK
 }
 
 // The cell after the record whose count area is at a cell. It can lie far past the track.
@@ -162,12 +177,12 @@ pub fn cells_needed(n: Counts) -> u32
 pub fn flag_of_r0(home: u8) -> u8
     ensures { λ r. ⌜ r ≡ flagOfR0 home ⌝ }
 {
-    home % 4
+    home % COPIED
 }
 
 // The flag byte of a new record, by that of the record before.
 pub fn flag_after(before: u8) -> u8
     ensures { λ r. ⌜ r ≡ flagAfter before ⌝ }
 {
-    (1 - before / 128) * 128 + before % 4
+    (1 - before / ODD) * ODD + before % COPIED
 }

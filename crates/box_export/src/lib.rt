@@ -13,7 +13,8 @@ ghost use Rattle.box_export.specs.Calls.{call, shape, startCall, goCall}
 // The fresh box: 1 if it was written, 0 with nothing written if the length is wrong.
 #[no_mangle]
 pub extern "C" fn poplar_fresh(bytes: &mut [u8]) -> u8
-    ensures { λ r. ⌜ (r ≡ bit (eqb (length (now (bytes .entry))) heldBytes)) × (now (bytes .exit) ≡ pick (eqb (length (now (bytes .entry))) heldBytes) (encoded fresh) (now (bytes .entry))) ⌝ }
+    ensures { λ r. ⌜ (r ≡ bit (eqb (length (now (bytes .entry))) heldBytes))
+        × (now (bytes .exit) ≡ pick (eqb (length (now (bytes .entry))) heldBytes) (encoded fresh) (now (bytes .entry))) ⌝ }
 {
     if held::put(bytes, Held::fresh()) {
         return 1;
@@ -30,7 +31,8 @@ pub extern "C" fn poplar_start(
     cylinders: u32,
     heads: u32,
 ) -> u8
-    ensures { λ r. ⌜ call r (now (bytes .exit)) (now (storage .exit)) (now (cells .exit)) ≡ startCall (shape cylinders heads) (now (bytes .entry)) (now (storage .entry)) (now (cells .entry)) ⌝ }
+    ensures { λ r. ⌜ call r (now (bytes .exit)) (now (storage .exit)) (now (cells .exit))
+        ≡ startCall (shape cylinders heads) (now (bytes .entry)) (now (storage .entry)) (now (cells .entry)) ⌝ }
 {
     let g = Shape { cylinders, heads };
     match held::keep(bytes) {
@@ -55,7 +57,8 @@ pub extern "C" fn poplar_go(
     heads: u32,
     allowance: u16,
 ) -> u8
-    ensures { λ r. ⌜ call r (now (bytes .exit)) (now (storage .exit)) (now (cells .exit)) ≡ goCall (shape cylinders heads) allowance (now (bytes .entry)) (now (storage .entry)) (now (cells .entry)) ⌝ }
+    ensures { λ r. ⌜ call r (now (bytes .exit)) (now (storage .exit)) (now (cells .exit))
+        ≡ goCall (shape cylinders heads) allowance (now (bytes .entry)) (now (storage .entry)) (now (cells .entry)) ⌝ }
 {
     let g = Shape { cylinders, heads };
     match held::keep(bytes) {

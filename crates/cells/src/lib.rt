@@ -4,6 +4,15 @@ ghost use Prim.Native.Nat.{_+_, _*_, _<_, min};
 ghost use lib.ListN.{getD};
 ghost use Rattle.cells.specs.Cells.{byteOf};
 
+// A track's end: the place after its last cell.
+pub const TRACK_END: u16 = 4096;
+// The cells of a track.
+pub const TRACK_CELLS: usize = TRACK_END as usize;
+// The first cell that can hold an address marker.
+pub const FIRST_MARKER: u16 = 7;
+// An address marker.
+pub const MARKER: u16 = 512;
+
 // The byte at an index of storage, 0 past its end.
 pub fn byte_at(s: &[u8], at: usize) -> u8
     ensures { λ r. ⌜ r ≡ getD (now (s .entry)) at 0 ⌝ }

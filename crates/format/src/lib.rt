@@ -9,6 +9,9 @@ ghost use Rattle.cells.specs.Cells.{overlay, part, trackCells, marker};
 ghost use Rattle.recording.specs.Recording.{areaWritten, Lies};
 ghost use Rattle.format.specs.Format.{newCounts, newKey, newRecord, recorded, Ends};
 
+// The bytes of a count area that are sent, before those of key and data.
+const COUNT_SENT: u16 = 8;
+
 // What the count of a new record says, by its flag and the bytes sent.
 pub fn new_counts(flag: u8, bytes: &[u8]) -> Counts
     ensures { λ r. ⌜ r ≡ newCounts flag (now (bytes .entry)) ⌝ }
@@ -41,7 +44,7 @@ fn lay_key(track: &mut [u16], first: usize, bytes: &[u8], n: Counts)
 {
     if 0 < n.kl {
         let kl = n.kl as u16;
-        lay_area(track, first, kl as usize, bytes, 8, kl);
+        lay_area(track, first, kl as usize, bytes, COUNT_SENT, kl);
     }
 }
 
@@ -53,16 +56,9 @@ pub fn lay_record(track: &mut [u16], c: u16, flag: u8, bytes: &[u8], n: Counts)
     recording::write_count(track, c as usize, flag, bytes);
     let key = areas::key_area(c, n);
     lay_key(track, key.first as usize, bytes, n);
-    let data = areas::data_area(c, n);
-    let from = 8 + n.kl as u16;
-    lay_area(
-        track,
-        data.first as usize,
-        data.bytes as usize,
-        bytes,
-        from,
-        n.dl,
-    );
+    let d = areas::data_area(c, n);
+    let from = COUNT_SENT + n.kl as u16;
+    lay_area(track, d.first as usize, d.bytes as usize, bytes, from, n.dl);
 }
 
 // An address marker.
@@ -70,7 +66,7 @@ fn put_marker(track: &mut [u16], p: u16)
     requires { ⌜ p < length (now track) ⌝ }
     ensures { λ _. ⌜ now (track .exit) ≡ overlay (now (track .entry)) p (marker ∷ []) ⌝ }
 {
-    track[p as usize] = 512;
+    track[p as usize] = cells::MARKER;
 }
 
 // A new record with its marker, which lies in a cell of the track.
@@ -87,6 +83,6 @@ pub fn is_recorded(track: &[u16], a: Area) -> bool
     ensures { λ r. ⌜ r ≡ recorded (now (track .entry)) a ⌝ }
 {
     let first = a.first as usize;
-    let end = first + a.bytes as usize + 2;
+    let end = first + a.bytes as usize + areas::CHECK_CELLS;
     end <= track.len() && house_check::all_bytes(&track[first..end])
 }

@@ -360,7 +360,8 @@ fn store(held: &mut [u8], first: usize, bytes: &[u8], n: usize)
 
 // The bytes of a held state stored, if there is room for just these.
 pub fn put(held: &mut [u8], h: Held) -> bool
-    ensures { λ r. ⌜ (r ≡ eqb (length (now (held .entry))) heldBytes) × (now (held .exit) ≡ pick (eqb (length (now (held .entry))) heldBytes) (encoded h) (now (held .entry))) ⌝ }
+    ensures { λ r. ⌜ (r ≡ eqb (length (now (held .entry))) heldBytes)
+        × (now (held .exit) ≡ pick (eqb (length (now (held .entry))) heldBytes) (encoded h) (now (held .entry))) ⌝ }
 {
     if held.len() != 64 {
         return false;

@@ -21,7 +21,7 @@ ghost use Rattle.hunt.specs.Hunt.{spotFits};
 ghost use Rattle.chain.specs.Legal.{storageFits, positionFits, channelFits, selectionFits, ordersFit, heldFits};
 ghost use Rattle.host.specs.Host.{hears, guardOf, wrongHeld, refusesStart, beginning, firstWord, begins, starts, goes, answerNo};
 
-// Refusal 2's limits, 4's on key, next address, place and tally, and a track's cells.
+// Refusal 2's limits, and 4's on key, next address and tally.
 const LEAST_STORAGE: usize = 80;
 
 const MOST_STORAGE: usize = 16777216;
@@ -30,16 +30,12 @@ const KEYS: u8 = 16;
 
 const ADDRESSES: u32 = 16777216;
 
-const TRACK_CELLS: u16 = 4096;
-
 const MOST_TALLY: u8 = 1;
 
-// The status word's bytes of unit and channel status, and a program check.
+// The status word's bytes of unit and channel status.
 const STATUS_UNIT: usize = 68;
 
 const STATUS_CHANNEL: usize = 69;
-
-const PROGRAM_CHECK: u8 = 0x20;
 
 pub enum Answer {
     ChainEnded,
@@ -90,7 +86,7 @@ fn position_fits(g: Shape, s: Position) -> bool
     ensures { λ r. ⌜ r ≡ positionFits g s ⌝ }
 {
     let cylinder = s.cylinder.0 as u32;
-    cylinder < g.cylinders && ((s.head.0 as u32) < g.heads && s.place <= TRACK_CELLS)
+    cylinder < g.cylinders && ((s.head.0 as u32) < g.heads && s.place <= cells::TRACK_END)
 }
 
 fn channel_fits(c: Channel) -> bool
@@ -141,7 +137,7 @@ fn held_fits(g: Shape, h: Held, cells: &[u16]) -> bool
     let cylinder = position.cylinder;
     let head = position.head;
     let start = pack::start_of(g, cylinder, head);
-    orders_fit(&cells[start..start + TRACK_CELLS as usize], orders)
+    orders_fit(&cells[start..start + cells::TRACK_END as usize], orders)
 }
 
 // What bytes that encode no held state are answered: 4, after 2 and 3.
@@ -179,7 +175,7 @@ fn refuse(h: Held, storage: &mut [u8]) -> Heard
     ensures { λ r. ⌜ ((c : List ℕ) → hears (r .answer) (world (r .held) (now (storage .exit)) c) ≡ refusesStart (world h (now (storage .entry)) c)) ⌝ }
 {
     storage[STATUS_UNIT] = 0x00;
-    storage[STATUS_CHANNEL] = PROGRAM_CHECK;
+    storage[STATUS_CHANNEL] = words::PROGRAM_CHECK;
     Heard {
         answer: Answer::BadStart,
         held: h,
@@ -207,7 +203,8 @@ fn begun(h: Held, key: u8, next: u32) -> Held
 
 fn first_word(h: Held, key: u8, next: u32, storage: &mut [u8]) -> Heard
     requires { ⌜ 80 ≤ length (now storage) ⌝ }
-    ensures { λ r. ⌜ ((c : List ℕ) → hears (r .answer) (world (r .held) (now (storage .exit)) c) ≡ firstWord (world h (now (storage .entry)) c) key next (tested (now (storage .entry)) next false)) ⌝ }
+    ensures { λ r. ⌜ ((c : List ℕ) → hears (r .answer) (world (r .held) (now (storage .exit)) c)
+        ≡ firstWord (world h (now (storage .entry)) c) key next (tested (now (storage .entry)) next false)) ⌝ }
 {
     match words::test(storage, next, false) {
         Tested::Obey(_) => Heard {
@@ -221,7 +218,8 @@ fn first_word(h: Held, key: u8, next: u32, storage: &mut [u8]) -> Heard
 
 fn begin(h: Held, storage: &mut [u8]) -> Heard
     requires { ⌜ 80 ≤ length (now storage) ⌝ }
-    ensures { λ r. ⌜ ((c : List ℕ) → hears (r .answer) (world (r .held) (now (storage .exit)) c) ≡ begins (world h (now (storage .entry)) c) (begunBy (now (storage .entry)))) ⌝ }
+    ensures { λ r. ⌜ ((c : List ℕ) → hears (r .answer) (world (r .held) (now (storage .exit)) c)
+        ≡ begins (world h (now (storage .entry)) c) (begunBy (now (storage .entry)))) ⌝ }
 {
     match words::address_word(storage) {
         Begun::Begins { key, first } => first_word(h, key, words::advanced(first, 0), storage),
@@ -231,7 +229,8 @@ fn begin(h: Held, storage: &mut [u8]) -> Heard
 
 // Starts a chain: its first word is tested, and nothing runs.
 pub fn start(g: Shape, h: Held, storage: &mut [u8], cells: &[u16]) -> Heard
-    ensures { λ r. ⌜ hears (r .answer) (world (r .held) (now (storage .exit)) (now (cells .entry))) ≡ starts g (world h (now (storage .entry)) (now (cells .entry))) ⌝ }
+    ensures { λ r. ⌜ hears (r .answer) (world (r .held) (now (storage .exit)) (now (cells .entry)))
+        ≡ starts g (world h (now (storage .entry)) (now (cells .entry))) ⌝ }
 {
     if let Guarded::Answers(a) = guard(g, h, storage, cells) {
         return Heard { answer: a, held: h };
@@ -262,7 +261,8 @@ fn told(h: Held) -> Heard
 
 // Goes on with a chain, for at most so many command words.
 pub fn go(g: Shape, h: Held, storage: &mut [u8], cells: &mut [u16], allowance: u16) -> Heard
-    ensures { λ r. ⌜ hears (r .answer) (world (r .held) (now (storage .exit)) (now (cells .exit))) ≡ goes g allowance (world h (now (storage .entry)) (now (cells .entry))) ⌝ }
+    ensures { λ r. ⌜ hears (r .answer) (world (r .held) (now (storage .exit)) (now (cells .exit)))
+        ≡ goes g allowance (world h (now (storage .entry)) (now (cells .entry))) ⌝ }
 {
     if let Guarded::Answers(a) = guard(g, h, storage, cells) {
         return Heard { answer: a, held: h };

@@ -4,10 +4,8 @@ ghost use Prim.Native.Nat.{max, _≤_};
 ghost use Rattle.cells.specs.Cells.{marks, markAt};
 ghost use Rattle.hunt.specs.Hunt.{WholeTrack, markerless, hunt, countFirst, nextRecord, nextId, spaceRecord};
 
-const TRACK_CELLS: u16 = 4096;
-
-const MARKER: u16 = 512;
-
+// The first cell of R0.
+const R0_FIRST: u32 = cells::FIRST_MARKER as u32;
 // So many cells are passed over at once where none of them holds a marker.
 const STRIDE: u16 = 16;
 
@@ -34,7 +32,7 @@ pub fn is_marker(track: &[u16], at: u16) -> bool
     ensures { λ r. ⌜ r ≡ markAt (now (track .entry)) at ⌝ }
 {
     let i = at as usize;
-    7 <= i && (i < track.len() && track[i] == MARKER)
+    cells::FIRST_MARKER <= at && (i < track.len() && track[i] == cells::MARKER)
 }
 
 // The first cell at or after a place that can hold a marker.
@@ -51,7 +49,7 @@ fn is_bare(cells: &[u16]) -> bool
     let mut bare = true;
     let mut i = 0;
     while i < cells.len() {
-        if cells[i] == MARKER {
+        if cells[i] == cells::MARKER {
             bare = false;
         }
         i += 1;
@@ -65,7 +63,7 @@ fn pass_over(track: &[u16], from: u16) -> u16
     ensures { λ r. ⌜ (from ≤ r) × (hunt (marks (now (track .entry))) r ≡ hunt (marks (now (track .entry))) from) ⌝ }
 {
     let mut i = from;
-    while i < TRACK_CELLS - STRIDE {
+    while i < cells::TRACK_END - STRIDE {
         let at = i as usize;
         if !is_bare(&track[at..at + STRIDE as usize]) {
             return i;
@@ -81,8 +79,8 @@ pub fn next_marker(track: &[u16], place: u16) -> Found
     ensures { λ r. ⌜ r ≡ hunt (marks (now (track .entry))) place ⌝ }
 {
     let mut i = pass_over(track, from_seven(place));
-    while i < TRACK_CELLS {
-        if track[i as usize] == MARKER {
+    while i < cells::TRACK_END {
+        if track[i as usize] == cells::MARKER {
             return Found::At(i);
         }
         i += 1;
@@ -98,7 +96,7 @@ pub fn next_record(track: &[u16], place: u16) -> Next
     if let Found::At(p) = next_marker(track, place) {
         return Next::ComesTo(Spot::Marker(p), 0);
     }
-    match next_marker(track, 7) {
+    match next_marker(track, cells::FIRST_MARKER) {
         Found::At(p) => Next::ComesTo(Spot::Marker(p), 1),
         Found::Nothing => Next::NoMarker,
     }
@@ -109,7 +107,7 @@ pub fn next_id(track: &[u16], place: u16) -> Next
     requires { ⌜ WholeTrack (now track) ⌝ }
     ensures { λ r. ⌜ r ≡ nextId (marks (now (track .entry))) place ⌝ }
 {
-    if place < 7 {
+    if place < cells::FIRST_MARKER {
         return Next::ComesTo(Spot::R0, 0);
     }
     match next_marker(track, place) {
@@ -123,7 +121,7 @@ pub fn count_first(spot: Spot) -> u32
     ensures { λ r. ⌜ r ≡ countFirst spot ⌝ }
 {
     match spot {
-        Spot::R0 => 7,
+        Spot::R0 => R0_FIRST,
         Spot::Marker(p) => p as u32 + 1,
     }
 }
@@ -134,10 +132,10 @@ pub fn space_record(track: &[u16], place: u16, after_home: bool) -> u32
     ensures { λ r. ⌜ r ≡ spaceRecord (marks (now (track .entry))) place «after_home» ⌝ }
 {
     if after_home {
-        return 7;
+        return R0_FIRST;
     }
     match next_record(track, place) {
         Next::ComesTo(spot, _) => count_first(spot),
-        Next::NoMarker => 7,
+        Next::NoMarker => R0_FIRST,
     }
 }

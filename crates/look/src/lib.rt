@@ -28,7 +28,7 @@ pub enum Look {
 fn next_marked(track: &[u16], place: u16) -> Marked
     ensures { λ r. ⌜ r ≡ marked (now (track .entry)) place ⌝ }
 {
-    if track.len() != 4096 {
+    if track.len() != cells::TRACK_CELLS {
         return Marked::NoTrack;
     }
     match hunt::next_marker(track, place) {
@@ -42,7 +42,7 @@ fn marked_number(m: Marked) -> u16
 {
     match m {
         Marked::Cell(p) => p,
-        Marked::NoMarker => 4096,
+        Marked::NoMarker => cells::TRACK_END,
         Marked::NoTrack => 65535,
     }
 }
@@ -115,10 +115,10 @@ fn part_of(p: u8) -> Part
 fn call_fits(cells: usize, c: u16, p: u8, numbers: usize) -> bool
     ensures { λ r. ⌜ r ≡ callFits cells c p numbers ⌝ }
 {
-    if cells != 4096 {
+    if cells != cells::TRACK_CELLS {
         return false;
     }
-    numbers == 2 && (p <= 3 && (p == 0 || c <= 4096))
+    numbers == 2 && (p <= 3 && (p == 0 || c <= cells::TRACK_END))
 }
 
 // Writes where an area lies.

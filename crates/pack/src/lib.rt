@@ -5,6 +5,11 @@ ghost use Prim.Native.Nat.{_+_, _*_, _≤_};
 ghost use Rattle.cells.specs.Cells.{trackCells};
 ghost use Rattle.pack.specs.Pack.{from1To, packFits, seekTo, seekHead, mostCylinders, mostHeads, On, startOf};
 
+// The most cylinders and heads of a pack.
+const MOST_CYLINDERS: u32 = 203;
+
+const MOST_HEADS: u32 = 10;
+
 pub struct Cylinder(pub u16);
 
 pub struct Head(pub u16);
@@ -33,14 +38,15 @@ fn cells_on(g: Shape) -> usize
     requires { ⌜ (g .cylinders ≤ mostCylinders) × (g .heads ≤ mostHeads) ⌝ }
     ensures { λ r. ⌜ r ≡ g .cylinders * g .heads * trackCells ⌝ }
 {
-    g.cylinders as usize * g.heads as usize * 4096
+    g.cylinders as usize * g.heads as usize * cells::TRACK_CELLS
 }
 
 // Whether a pack's shape is right, and its number of cells.
 pub fn pack_fits(g: Shape, count: usize) -> bool
     ensures { λ r. ⌜ r ≡ packFits g count ⌝ }
 {
-    from_one_to(203, g.cylinders) && (from_one_to(10, g.heads) && count == cells_on(g))
+    from_one_to(MOST_CYLINDERS, g.cylinders)
+        && (from_one_to(MOST_HEADS, g.heads) && count == cells_on(g))
 }
 
 // Where Seek and Seek Cylinder go.
@@ -77,5 +83,5 @@ pub fn start_of(g: Shape, c: Cylinder, h: Head) -> usize
     let cylinder = c.0 as usize;
     let head = h.0 as usize;
     let heads = g.heads as usize;
-    (cylinder * heads + head) * 4096
+    (cylinder * heads + head) * cells::TRACK_CELLS
 }

@@ -9,6 +9,10 @@ ghost use Rattle.recording.specs.Recording.{areaWritten, countWritten, w
 
 // The cell that records a zero; a byte b is recorded as b more.
 const ZERO: u16 = 256;
+// The bytes of a count area, without its check, and those that are sent, without the flag.
+const COUNT_BYTES: usize = areas::COUNT_BYTES as usize;
+
+const COUNT_SENT: usize = COUNT_BYTES - 1;
 
 // The cell that records a byte.
 fn cell_of(b: u8) -> u16
@@ -85,8 +89,8 @@ pub fn write_count(track: &mut [u16], c: usize, flag: u8, bytes: &[u8])
     ensures { λ _. ⌜ now (track .exit) ≡ countWritten (now (track .entry)) c flag (now (bytes .entry)) ⌝ }
 {
     record_byte(track, c, flag);
-    record_bytes(track, c + 1, bytes, 8);
-    record_check(track, c, 9);
+    record_bytes(track, c + 1, bytes, COUNT_SENT);
+    record_check(track, c, COUNT_BYTES);
 }
 
 // Gaps from a cell to the track's end.

@@ -2,11 +2,14 @@
 ghost use mathlib.Core.Path.{_≡_};
 ghost use Rattle.room.specs.Room.{roomLeft, fits};
 
+// The cells of a track, to take from.
+const TRACK_CELLS: i64 = cells::TRACK_CELLS as i64;
+
 // Room left for a record that begins at a cell, wherever that is, and needs so many cells: below zero if it doesn't fit.
 pub fn room_left(first: u32, needs: u32) -> i64
     ensures { λ r. ⌜ r ≡ roomLeft first needs ⌝ }
 {
-    4096 - first as i64 - needs as i64
+    TRACK_CELLS - first as i64 - needs as i64
 }
 
 // Whether it fits.

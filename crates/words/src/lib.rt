@@ -6,6 +6,31 @@ ghost use lib.ListN.{length};
 ghost use Rattle.cells.specs.Cells.{be16, be24};
 ghost use Rattle.words.specs.Words.{along, begunBy, wordAt, testedCommand, testedWord, tested, Storable, stored, statusFor, channelFor, programCheck};
 
+// Addresses are taken modulo 2 to the 24.
+const ADDRESSES: u64 = 16777216;
+// The address word, and its byte with the key.
+const ADDRESS_WORD: u32 = 72;
+
+const KEY_BYTE: usize = ADDRESS_WORD as usize;
+// A byte is two digits: what its left one counts.
+const DIGIT: u8 = 16;
+// A command word is 8 bytes on a multiple of 8.
+const WORD: u32 = 8;
+
+const WORD_BYTES: usize = WORD as usize;
+// Its bytes of flags and count.
+const FLAGS: usize = 4;
+
+const COUNT: usize = 6;
+// Flags other than 40 and 20: 80, and those below 20.
+const FLAG_80: u8 = 0x80;
+
+const FLAG_20: u8 = 0x20;
+// The low digit of a TIC.
+const TIC: u8 = 8;
+// The channel status of a program check.
+pub const PROGRAM_CHECK: u8 = 0x20;
+
 // A command word.
 pub struct Word {
     pub code: u8,
@@ -51,7 +76,7 @@ pub fn advanced(at: u32, by: u32) -> u32
     ensures { λ r. ⌜ r ≡ along at by ⌝ }
 {
     let sum = at as u64 + by as u64;
-    (sum % 16777216) as u32
+    (sum % ADDRESSES) as u32
 }
 
 // The three bytes after a word's first: its address.
@@ -69,7 +94,7 @@ fn word_address(storage: &[u8], at: u32) -> u32
 fn word_count(storage: &[u8], at: u32) -> u16
     ensures { λ r. ⌜ r ≡ be16 (now (storage .entry)) (at + 6) ⌝ }
 {
-    let i = at as usize + 6;
+    let i = at as usize + COUNT;
     let high = cells::byte_at(storage, i);
     let low = cells::byte_at(storage, i + 1);
     cells::pair(high, low)
@@ -79,13 +104,13 @@ fn word_count(storage: &[u8], at: u32) -> u16
 pub fn address_word(storage: &[u8]) -> Begun
     ensures { λ r. ⌜ r ≡ begunBy (now (storage .entry)) ⌝ }
 {
-    let top = cells::byte_at(storage, 72);
-    if top % 16 != 0 {
+    let top = cells::byte_at(storage, KEY_BYTE);
+    if top % DIGIT != 0 {
         return Begun::Refused;
     }
     Begun::Begins {
-        key: top / 16,
-        first: word_address(storage, 72),
+        key: top / DIGIT,
+        first: word_address(storage, ADDRESS_WORD),
     }
 }
 
@@ -97,7 +122,7 @@ pub fn word_at(storage: &[u8], at: u32) -> Word
     Word {
         code: cells::byte_at(storage, i),
         address: word_address(storage, at),
-        flags: cells::byte_at(storage, i + 4),
+        flags: cells::byte_at(storage, i + FLAGS),
         count: word_count(storage, at),
     }
 }
@@ -106,16 +131,16 @@ pub fn word_at(storage: &[u8], at: u32) -> Word
 fn test_command(bytes: usize, w: Word) -> Tested
     ensures { λ r. ⌜ ((s : List ℕ) → length s ≡ bytes → r ≡ testedCommand s w) ⌝ }
 {
-    if w.flags >= 128 {
+    if w.flags >= FLAG_80 {
         return Tested::Bad(Cause::Flags);
     }
-    if w.flags % 32 != 0 {
+    if w.flags % FLAG_20 != 0 {
         return Tested::Bad(Cause::Flags);
     }
     if w.count == 0 {
         return Tested::Bad(Cause::NoCount);
     }
-    if w.code % 16 == 0 {
+    if w.code % DIGIT == 0 {
         return Tested::Bad(Cause::Code);
     }
     if bytes < w.address as usize + w.count as usize {
@@ -128,7 +153,7 @@ fn test_command(bytes: usize, w: Word) -> Tested
 fn test_word(bytes: usize, after_tic: bool, w: Word) -> Tested
     ensures { λ r. ⌜ ((s : List ℕ) → length s ≡ bytes → r ≡ testedWord s «after_tic» w) ⌝ }
 {
-    if w.code % 16 != 8 {
+    if w.code % DIGIT != TIC {
         return test_command(bytes, w);
     }
     if after_tic {
@@ -141,10 +166,10 @@ fn test_word(bytes: usize, after_tic: bool, w: Word) -> Tested
 pub fn test(storage: &[u8], at: u32, after_tic: bool) -> Tested
     ensures { λ r. ⌜ r ≡ tested (now (storage .entry)) at «after_tic» ⌝ }
 {
-    if at % 8 != 0 {
+    if at % WORD != 0 {
         return Tested::Bad(Cause::Place);
     }
-    if storage.len() < at as usize + 8 {
+    if storage.len() < at as usize + WORD_BYTES {
         return Tested::Bad(Cause::Place);
     }
     test_word(storage.len(), after_tic, word_at(storage, at))
@@ -156,7 +181,7 @@ pub fn status_for(key: u8, at: u32, unit: u8, channel: u8, left: u16) -> Status
 {
     Status {
         key,
-        address: advanced(at, 8),
+        address: advanced(at, WORD),
         unit,
         channel,
         left,
@@ -168,12 +193,12 @@ fn channel_for(cause: Cause) -> u8
     ensures { λ r. ⌜ r ≡ channelFor cause ⌝ }
 {
     match cause {
-        Cause::Place => 0x20,
-        Cause::TicAfterTic => 0x20,
-        Cause::Flags => 0x20,
-        Cause::NoCount => 0x20,
-        Cause::Code => 0x20,
-        Cause::Area => 0x20,
+        Cause::Place => PROGRAM_CHECK,
+        Cause::TicAfterTic => PROGRAM_CHECK,
+        Cause::Flags => PROGRAM_CHECK,
+        Cause::NoCount => PROGRAM_CHECK,
+        Cause::Code => PROGRAM_CHECK,
+        Cause::Area => PROGRAM_CHECK,
     }
 }
 
@@ -189,7 +214,7 @@ pub fn store_status(storage: &mut [u8], x: Status)
     requires { ⌜ Storable (now storage) x ⌝ }
     ensures { λ _. ⌜ now (storage .exit) ≡ stored (now (storage .entry)) x ⌝ }
 {
-    storage[64] = x.key * 16;
+    storage[64] = x.key * DIGIT;
     storage[65] = (x.address / 65536) as u8;
     storage[66] = (x.address / 256 % 256) as u8;
     storage[67] = (x.address % 256) as u8;
