@@ -2,6 +2,13 @@
 ghost use mathlib.Core.Path.{_≡_};
 ghost use Rattle.mask.specs.Mask.{legal, barsWrite, barsSeek};
 
+// The rightmost of bits 0-1, bit 2, and the rightmost of bits 3-4; bits 5 to 7 are below.
+const BITS_0_1: u8 = 0x40;
+
+const BIT_2: u8 = 0x20;
+
+const BITS_3_4: u8 = 0x08;
+
 // The writes that a mask tells apart: 19 and 15; 1D; 05 and 0D.
 pub enum Writing {
     HomeOrR0,
@@ -20,18 +27,18 @@ pub enum Seeking {
 pub fn is_legal(mask: u8) -> bool
     ensures { λ r. ⌜ r ≡ legal mask ⌝ }
 {
-    mask / 32 % 2 == 0 && mask % 8 == 0
+    mask / BIT_2 % 0b10 == 0 && mask % BITS_3_4 == 0
 }
 
 // Whether a mask bars a write.
 pub fn bars_write(mask: u8, write: Writing) -> bool
     ensures { λ r. ⌜ r ≡ barsWrite mask write ⌝ }
 {
-    let bits = mask / 64;
+    let bits = mask / BITS_0_1;
     match write {
-        Writing::HomeOrR0 => bits != 3,
-        Writing::CountKeyData => bits % 3 != 0,
-        Writing::Update => bits == 1,
+        Writing::HomeOrR0 => bits != 0b11,
+        Writing::CountKeyData => bits % 0b11 != 0,
+        Writing::Update => bits == 0b01,
     }
 }
 
@@ -39,10 +46,10 @@ pub fn bars_write(mask: u8, write: Writing) -> bool
 pub fn bars_seek(mask: u8, seek: Seeking) -> bool
     ensures { λ r. ⌜ r ≡ barsSeek mask seek ⌝ }
 {
-    let bits = mask / 8 % 4;
+    let bits = mask / BITS_3_4 % 0b100;
     match seek {
-        Seeking::Seek => bits != 0,
-        Seeking::SeekCylinder => bits >= 2,
-        Seeking::SeekHead => bits == 3,
+        Seeking::Seek => bits != 0b00,
+        Seeking::SeekCylinder => bits >= 0b10,
+        Seeking::SeekHead => bits == 0b11,
     }
 }
