@@ -31,6 +31,12 @@ const SENSE: u32 = 6;
 const SEEK: u32 = 6;
 
 const MASK: u32 = 1;
+// Where BB, CC and HH stand among a seek's bytes.
+const BB: usize = 0;
+
+const CC: usize = 2;
+
+const HH: usize = 4;
 
 fn fails(j: Job, row: Row) -> Report
     ensures { λ r. ⌜ ((t : Tracks) (v : List ℕ) → r ≡ reportOf (failTurn (sight t j v) row)) ⌝ }
@@ -53,9 +59,9 @@ fn sought_by(g: Shape, k: Seeking, c: Cylinder, sent: &[u8]) -> Sought
     requires { ⌜ 6 ≤ length (now sent) ⌝ }
     ensures { λ r. ⌜ r ≡ soughtBy g k c (now (sent .entry)) ⌝ }
 {
-    let bb = two(sent, 0);
-    let cylinder = Cylinder(two(sent, 2));
-    let head = Head(two(sent, 4));
+    let bb = two(sent, BB);
+    let cylinder = Cylinder(two(sent, CC));
+    let head = Head(two(sent, HH));
     match k {
         Seeking::Seek => pack::seek_to(g, bb, cylinder, head),
         Seeking::SeekCylinder => pack::seek_to(g, bb, cylinder, head),

@@ -8,6 +8,11 @@ ghost use lib.ListN.{length};
 ghost use Rattle.areas.specs.Areas.{readCount};
 ghost use Rattle.look.specs.Look.{marked, markedNo, markerCall, looksAt, keyLook, dataLook, partLook, partOf, callFits, lies, looked, lookedOf, areaCall};
 
+// The numbers that an area is told in, and the last part.
+const AREA_NUMBERS: usize = 2;
+
+const LAST_PART: u8 = 3;
+
 // The cell that holds a marker, that there is none from a place on, or that these cells are no track.
 pub enum Marked {
     Cell(u16),
@@ -118,7 +123,7 @@ fn call_fits(cells: usize, c: u16, p: u8, numbers: usize) -> bool
     if cells != cells::TRACK_CELLS {
         return false;
     }
-    numbers == 2 && (p <= 3 && (p == 0 || c <= cells::TRACK_END))
+    numbers == AREA_NUMBERS && (p <= LAST_PART && (p == 0 || c <= cells::TRACK_END))
 }
 
 // Writes where an area lies.
