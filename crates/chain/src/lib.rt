@@ -18,14 +18,7 @@ ghost use Rattle.chain.specs.Step.{jumped, stops, obeyed, step, run};
 ghost use Rattle.chain.specs.Legal.{leastStorage, keys, Legal};
 ghost use Rattle.chain.specs.Stroke.{passes, passing, passed, Passed};
 
-const TRACK_CELLS: usize = 4096;
-
 const NO_OP: u8 = 0x03;
-
-// The flag that chains commands.
-const CHAINS: u8 = 64;
-
-const WORD_BYTES: u32 = 8;
 
 // A command has its turn on the track under the head, whose cells are lent on.
 fn command(g: Shape, h: Held, w: Word, storage: &mut [u8], cells: &mut [u16]) -> Held
@@ -36,7 +29,8 @@ fn command(g: Shape, h: Held, w: Word, storage: &mut [u8], cells: &mut [u16]) ->
     let cylinder = position.cylinder;
     let head = position.head;
     let start = pack::start_of(g, cylinder, head);
-    channel::obey(g, h, w, storage, &mut cells[start..start + TRACK_CELLS])
+    let end = start + cells::TRACK_CELLS;
+    channel::obey(g, h, w, storage, &mut cells[start..end])
 }
 
 // A TIC.
@@ -94,7 +88,7 @@ fn passes(w: Word) -> bool
     if w.code != NO_OP {
         return false;
     }
-    w.flags / CHAINS % 2 == 1
+    w.flags / words::CHAINS % 2 == 1
 }
 
 // Whether the word at an address is one.
@@ -138,7 +132,7 @@ fn pass(h: Held, storage: &[u8], allowance: u16) -> Reached
     requires { ⌜ (0 < allowance) × (h .channel .going ≡ true) × (passing (tested (now storage) (h .channel .next) false) ≡ true) ⌝ }
     ensures { λ r. ⌜ Passed (now (storage .entry)) h allowance (r .held) (r .left) × (r .left < allowance) ⌝ }
 {
-    let mut next = words::advanced(h.channel.next, WORD_BYTES);
+    let mut next = words::advanced(h.channel.next, words::WORD);
     let mut rest = allowance - 1;
     while 0 < rest {
         if !is_pass(storage, next) {
@@ -147,7 +141,7 @@ fn pass(h: Held, storage: &[u8], allowance: u16) -> Reached
                 left: rest,
             };
         }
-        next = words::advanced(next, WORD_BYTES);
+        next = words::advanced(next, words::WORD);
         rest -= 1;
     }
     Reached {

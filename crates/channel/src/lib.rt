@@ -21,12 +21,7 @@ ghost use Rattle.unit.specs.Unit.{Accepts};
 ghost use Rattle.channel.specs.Channel.{fetched, unitStatus, endsWell, stride, onward, placed, bytesMoved, movesAny, lengthCounts, wrongLength, goesOn, heldAfter, statusAfter, withStatus, world, turnOn, obeyedOn};
 ghost use Rattle.channel.specs.Inside.{wordTurn, Asked, Turned, CanObey};
 
-// Flags of a command word: go on to the next, and incorrect length is none.
-const CHAINS: u8 = 0x40;
-
-const SUPPRESSES: u8 = 0x20;
-
-// Unit status.
+// Unit status, and channel status.
 const NORMAL: u8 = 0x0C;
 
 const SATISFIED: u8 = 0x4C;
@@ -35,11 +30,7 @@ const EXCEPTION: u8 = 0x0D;
 
 const CHECK: u8 = 0x0E;
 
-// Channel status.
 const WRONG_LENGTH: u8 = 0x40;
-
-// Bytes of a command word.
-const WORD: u32 = 8;
 
 fn unit_status(e: Ending) -> u8
     ensures { λ r. ⌜ r ≡ unitStatus e ⌝ }
@@ -68,8 +59,8 @@ fn stride(e: Ending) -> u32
     ensures { λ r. ⌜ r ≡ stride e ⌝ }
 {
     match e {
-        Ending::Satisfied => 2 * WORD,
-        _ => WORD,
+        Ending::Satisfied => 2 * words::WORD,
+        _ => words::WORD,
     }
 }
 
@@ -123,14 +114,14 @@ fn wrong_length(w: Word, d: Report) -> bool
     ensures { λ r. ⌜ r ≡ wrongLength w d ⌝ }
 {
     let m = d.transfer;
-    length_counts(d) && (w.flags / SUPPRESSES % 2 != 1 && wants(m) != w.count as u32)
+    length_counts(d) && (w.flags / words::SUPPRESSES % 2 != 1 && wants(m) != w.count as u32)
 }
 
 fn goes_on(w: Word, d: Report) -> bool
     ensures { λ r. ⌜ r ≡ goesOn w d ⌝ }
 {
     let e = d.ending;
-    w.flags / CHAINS % 2 == 1 && (!wrong_length(w, d) && ends_well(e))
+    w.flags / words::CHAINS % 2 == 1 && (!wrong_length(w, d) && ends_well(e))
 }
 
 // The next word, so many bytes on.

@@ -68,55 +68,55 @@ module _ (x y : List ℕ) (l : length x ≡ length y) where
     rest-next k =
         split ∙ ap₂ (λ (u v : ℕ). compared (numberFrom (n * 256 + u) (drop (j + 1) x)) (numberFrom (n * 256 + v) (drop (j + 1) y))) k refl
 
--- ---- bytes of storage, and bytes of a track
+-- ---- bytes sent, and bytes of a track
 
 track-bytes : (t : List ℕ) → Bytes (bytesOf t)
 track-bytes t i = subst (λ (z : ℕ). z < 256) (sym (getD-bytesOf t i)) (omega arith)
 
 -- ---- the loop over a field of a track: the laws of two lists, cell by cell
 
-module _ (t : List ℕ) (first : ℕ) (s : List ℕ) (address m : ℕ) where
+module _ (t : List ℕ) (first : ℕ) (v : List ℕ) (from m : ℕ) where
   unfoldable pub left : ℕ → ℕ → Compared
-  left j n = rest (bytesOf (part t first m)) (part s address m) j n
+  left j n = rest (bytesOf (part t first m)) (part v from m) j n
 
-  pub left-all : comparedBytes t first s address m ≡ left 0 0
+  pub left-all : comparedBytes t first v from m ≡ left 0 0
   unfolding comparedBytes left
   left-all = rest-all _ _
 
-  module _ (here : There t first s address m) where
+  module _ (here : There t first v from m) where
     length-field : length (bytesOf (part t first m)) ≡ m
     length-field = length-bytesOf (part t first m) ∙ length-part t first m (here .onTrack)
 
-    one-length-of : length (bytesOf (part t first m)) ≡ length (part s address m)
-    one-length-of = length-field ∙ sym (length-part s address m (here .inStorage))
+    one-length-of : length (bytesOf (part t first m)) ≡ length (part v from m)
+    one-length-of = length-field ∙ sym (length-part v from m (here .sent))
 
     pub left-none : (j n : ℕ) → m ≤ j → left j n ≡ Equal
     unfolding left
     left-none j n h = rest-none _ _ one-length-of j n (omega (arith, length-field))
 
-    module _ (bytes : Bytes s) (j n : ℕ) (h : j < m) where
+    module _ (bytes : Bytes v) (j n : ℕ) (h : j < m) where
       track-byte : getD (bytesOf (part t first m)) j 0 ≡ byteOf (getD t (first + j) 0)
       track-byte = getD-bytesOf (part t first m) j ∙ ap byteOf (getD-part t first m j h)
 
-      storage-byte : getD (part s address m) j 0 ≡ getD s (address + j) 0
-      storage-byte = getD-part s address m j h
+      sent-byte : getD (part v from m) j 0 ≡ getD v (from + j) 0
+      sent-byte = getD-part v from m j h
 
-      pub left-low : byteOf (getD t (first + j) 0) < getD s (address + j) 0 → left j n ≡ Low
+      pub left-low : byteOf (getD t (first + j) 0) < getD v (from + j) 0 → left j n ≡ Low
       unfolding left
       left-low k =
-          rest-low _ _ one-length-of (track-bytes (part t first m)) (part-bytes s address m bytes) j n (omega (arith, length-field))
-          (omega (arith, track-byte, storage-byte))
+          rest-low _ _ one-length-of (track-bytes (part t first m)) (part-bytes v from m bytes) j n (omega (arith, length-field))
+          (omega (arith, track-byte, sent-byte))
 
-      pub left-high : getD s (address + j) 0 < byteOf (getD t (first + j) 0) → left j n ≡ High
+      pub left-high : getD v (from + j) 0 < byteOf (getD t (first + j) 0) → left j n ≡ High
       unfolding left
       left-high k =
-          rest-high _ _ one-length-of (track-bytes (part t first m)) (part-bytes s address m bytes) j n (omega (arith, length-field))
-          (omega (arith, track-byte, storage-byte))
+          rest-high _ _ one-length-of (track-bytes (part t first m)) (part-bytes v from m bytes) j n (omega (arith, length-field))
+          (omega (arith, track-byte, sent-byte))
 
-      pub left-next : byteOf (getD t (first + j) 0) ≡ getD s (address + j) 0 → (k : ℕ) × (left j n ≡ left (j + 1) k)
+      pub left-next : byteOf (getD t (first + j) 0) ≡ getD v (from + j) 0 → (k : ℕ) × (left j n ≡ left (j + 1) k)
       unfolding left
       left-next k = (
         _,
-        rest-next _ _ one-length-of (track-bytes (part t first m)) (part-bytes s address m bytes) j n (omega (arith, length-field))
-            (track-byte ∙ k ∙ sym storage-byte),
+        rest-next _ _ one-length-of (track-bytes (part t first m)) (part-bytes v from m bytes) j n (omega (arith, length-field))
+            (track-byte ∙ k ∙ sym sent-byte),
       )

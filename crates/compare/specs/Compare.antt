@@ -7,16 +7,15 @@ use Rattle.cells.specs.Cells.{pick, number, part, bytesOf}
 -- Compared: Low, Equal or High, as the track's number stands to the one sent.
 use Rattle.compare.specs.declared.{Compared.Compared}
 
--- how the track's number stands to storage's
+-- how the track's number stands to the one sent
 unfoldable pub compared : ℕ → ℕ → Compared
-compared onTrack inStorage =
-    pick (eqb onTrack inStorage) Compared.Equal (pick (ltb inStorage onTrack) Compared.High Compared.Low)
+compared onTrack sent = pick (eqb onTrack sent) Compared.Equal (pick (ltb sent onTrack) Compared.High Compared.Low)
 
--- m bytes of the track from a cell on, and m bytes of storage from an address on
+-- m bytes of the track from a cell on, and m of the bytes sent from one on
 unfoldable pub comparedBytes : List ℕ → ℕ → List ℕ → ℕ → ℕ → Compared
-comparedBytes t first s address m = compared (number (bytesOf (part t first m))) (number (part s address m))
+comparedBytes t first v from m = compared (number (bytesOf (part t first m))) (number (part v from m))
 
 -- all of them are there
-pub record There (t : List ℕ) (first : ℕ) (s : List ℕ) (address m : ℕ) : Type 0 where
+pub record There (t : List ℕ) (first : ℕ) (v : List ℕ) (from m : ℕ) : Type 0 where
   pub onTrack : first + m ≤ length t
-  pub inStorage : address + m ≤ length s
+  pub sent : from + m ≤ length v

@@ -22,7 +22,7 @@ ghost use lib.ListN.{length, getD};
 ghost use Rattle.cells.specs.Cells.{be16};
 ghost use Rattle.hunt.specs.Hunt.{WholeTrack};
 ghost use Rattle.turn.specs.Turn.{Tracks, alone, reportOf, filled};
-ghost use Rattle.command.specs.Command.{sight, failTurn, senseBytes, soughtBy, addressed, arrivalTurn, seekTurn, maskedTurn, maskTurn, spaceTurn, controlTurn};
+ghost use Rattle.command.specs.Command.{sight, senseBytes, soughtBy, addressed, arrivalTurn, seekTurn, maskedTurn, maskTurn, spaceTurn, controlTurn};
 
 // The bytes that Sense gives.
 const SENSE: u32 = 6;
@@ -37,14 +37,6 @@ const BB: usize = 0;
 const CC: usize = 2;
 
 const HH: usize = 4;
-
-fn fails(j: Job, row: Row) -> Report
-    ensures { λ r. ⌜ ((t : Tracks) (v : List ℕ) → r ≡ reportOf (failTurn (sight t j v) row)) ⌝ }
-{
-    let position = j.position;
-    let orders = j.orders;
-    ending::failed(position, orders, row)
-}
 
 // Two of the bytes sent, as one number.
 fn two(sent: &[u8], at: usize) -> u16
@@ -97,7 +89,7 @@ fn arrives(j: Job, x: Sought) -> Report
                 orders,
             }
         }
-        Sought::Fails(row) => fails(j, row),
+        Sought::Fails(row) => ending::fails(j, row),
     }
 }
 
@@ -135,10 +127,10 @@ fn set_mask(j: Job, byte: u8) -> Report
     ensures { λ r. ⌜ ((t : Tracks) (v : List ℕ) → r ≡ reportOf (maskTurn (sight t j v) byte)) ⌝ }
 {
     if !mask::is_legal(byte) {
-        return fails(j, Row::BadMask);
+        return ending::fails(j, Row::BadMask);
     }
     if j.orders.mask_set {
-        return fails(j, Row::SecondMask);
+        return ending::fails(j, Row::SecondMask);
     }
     masked(j, byte)
 }
@@ -167,7 +159,7 @@ pub fn control(g: Shape, k: Control, j: Job, sent: &[u8], track: &[u16]) -> Repo
     ensures { λ r. ⌜ r ≡ reportOf (controlTurn g k (sight (alone (now (track .entry))) j (now (sent .entry)))) ⌝ }
 {
     match k {
-        Control::Unknown => fails(j, Row::UnknownCode),
+        Control::Unknown => ending::fails(j, Row::UnknownCode),
         Control::NoOp => ending::ended(j, Ending::Normal, Transfer::None, false),
         Control::Sense => ending::ended(j, Ending::Normal, Transfer::Gives(SENSE), false),
         Control::Seek(s) => seek(g, s, j, sent),

@@ -9,7 +9,10 @@ use turn::Ending;
 use turn::Report;
 use turn::Transfer;
 ghost use mathlib.Core.Path.{_≡_};
-ghost use Rattle.command.specs.Command.{endingOf, senseAfter, positionAfter, ordersAfter};
+ghost use mathlib.Core.List.{List};
+ghost use Prim.Native.Nat.{ℕ};
+ghost use Rattle.turn.specs.Turn.{Tracks, reportOf};
+ghost use Rattle.command.specs.Command.{endingOf, senseAfter, positionAfter, ordersAfter, sight, failTurn};
 ghost use Rattle.ending.specs.Ending.{reportAt, checkReport};
 
 // Commands but Sense and No-op clear sense first.
@@ -106,4 +109,13 @@ pub fn failed(s: Position, o: Orders, row: Row) -> Report
         },
         orders: o,
     }
+}
+
+// Unit Check of a job.
+pub fn fails(j: Job, row: Row) -> Report
+    ensures { λ r. ⌜ ((t : Tracks) (v : List ℕ) → r ≡ reportOf (failTurn (sight t j v) row)) ⌝ }
+{
+    let position = j.position;
+    let orders = j.orders;
+    failed(position, orders, row)
 }

@@ -114,7 +114,7 @@ lying-long t f first n l = ap length (l .there) ∙ length-bytesOf (part t first
 
 module _ (t : List ℕ) (first n : ℕ) (v : List ℕ) (e : first + n ≤ length t) (m : ℕ) (q : m ≡ min (length v) n) where
   pub both-there : There t first v 0 m
-  both-there = record { onTrack = omega arith; inStorage = omega arith }
+  both-there = record { onTrack = omega arith; sent = omega arith }
 
   track-bytes : take (length v) (bytesOf (part t first n)) ≡ bytesOf (part t first m)
   unfolding part

@@ -12,7 +12,7 @@ ghost use Rattle.cells.specs.Cells.{both};
 ghost use Rattle.areas.specs.Areas.{homeArea};
 ghost use Rattle.pack.specs.declared.Head.{Head};
 ghost use Rattle.command.specs.declared.Got.the-variants.{Sees};
-ghost use Rattle.table.specs.declared.Names.the-variants as Names;
+ghost use Rattle.table.specs.declared.{Names.Names};
 ghost use Rattle.turn.specs.Turn.{alone};
 ghost use Rattle.command.specs.Command.{areaIf, named, noCounts, onHead, allRead, gets};
 

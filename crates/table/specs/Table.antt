@@ -51,21 +51,28 @@ uncounted = false
 
 -- ---- rows of a family: what all of them have in common is said once
 
--- Sense and No-op leave sense as it is
+-- a control command clears sense first, or does not: Sense and No-op
+abbrev pub plainRow : Licence → Bar → Control → Bool → Rule
+plainRow l b a c = record { licence = l; bar = b; aim = Aim.Stays; names = Names.Nothing; act = Act.Control a; selects = selectsNone; serves = Serves.Nobody; excepts = accepts; clears = c }
+
 abbrev pub quietRow : Control → Rule
-quietRow a = record { licence = Licence.Any; bar = Bar.Nothing; aim = Aim.Stays; names = Names.Nothing; act = Act.Control a; selects = selectsNone; serves = Serves.Nobody; excepts = accepts; clears = false }
+quietRow a = plainRow Licence.Any Bar.Nothing a false
 
 abbrev pub controlRow : Licence → Bar → Control → Rule
-controlRow l b a = record { licence = l; bar = b; aim = Aim.Stays; names = Names.Nothing; act = Act.Control a; selects = selectsNone; serves = Serves.Nobody; excepts = accepts; clears = true }
+controlRow l b a = plainRow l b a true
 
 abbrev pub seekRow : Seeking → Rule
 seekRow k = controlRow Licence.Any (Bar.Seeks k) (Control.Seek k)
 
+-- a search or a read
+abbrev pub lookRow : Aim → Names → Act → Bool → Serves → Bool → Rule
+lookRow a n t s v x = record { licence = Licence.Any; bar = Bar.Nothing; aim = a; names = n; act = t; selects = s; serves = v; excepts = x; clears = true }
+
 abbrev pub searchRow : Aim → Names → Bool → Serves → How → Rule
-searchRow a n s v h = record { licence = Licence.Any; bar = Bar.Nothing; aim = a; names = n; act = Act.Search h; selects = s; serves = v; excepts = accepts; clears = true }
+searchRow a n s v h = lookRow a n (Act.Search h) s v accepts
 
 abbrev pub readRow : Aim → Names → Bool → Bool → Serves → Bool → Rule
-readRow a n c s v x = record { licence = Licence.Any; bar = Bar.Nothing; aim = a; names = n; act = Act.Read c; selects = s; serves = v; excepts = x; clears = true }
+readRow a n c s v x = lookRow a n (Act.Read c) s v x
 
 abbrev pub writeRow : Licence → Writing → Aim → Names → Write → Bool → Bool → Rule
 writeRow l b a n w s x = record { licence = l; bar = Bar.Writes b; aim = a; names = n; act = Act.Write w; selects = s; serves = Serves.Nobody; excepts = x; clears = true }

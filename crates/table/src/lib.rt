@@ -3,15 +3,9 @@ use mask::Seeking;
 use mask::Writing;
 ghost use mathlib.Core.Path.{_≡_};
 ghost use mathlib.Core.Bool.{true, false};
-ghost use Rattle.table.specs.Table.{seekRow, searchRow, readRow, writeRow, count, countKey, selects, selectsNone, accepts, excepts, searches, reads, writes, unknown, find, ruleOf, looks, servesData, servesKey, isHome};
-ghost use Rattle.mask.specs.declared.Writing.the-variants as Writing;
-ghost use Rattle.table.specs.declared.Licence.the-variants as Licence;
-ghost use Rattle.table.specs.declared.Bar.the-variants as Bar;
-ghost use Rattle.table.specs.declared.Act.the-variants as Act;
-ghost use Rattle.table.specs.declared.Write.the-variants as Write;
-ghost use Rattle.table.specs.declared.Aim.the-variants as Aim;
-ghost use Rattle.table.specs.declared.Names.the-variants as Names;
-ghost use Rattle.table.specs.declared.Serves.the-variants as Serves;
+ghost use Rattle.table.specs.Table.{plainRow, lookRow, seekRow, searchRow, readRow, writeRow, count, countKey, selects, selectsNone, accepts, excepts, searches, reads, writes, unknown, find, ruleOf, looks, servesData, servesKey, isHome};
+ghost use Rattle.mask.specs.declared.{Writing.Writing};
+ghost use Rattle.table.specs.declared.{Licence.Licence, Bar.Bar, Act.Act, Write.Write, Aim.Aim, Names.Names, Serves.Serves};
 
 // What satisfies a search: equal, the track's higher, or either.
 pub enum How {
@@ -114,7 +108,7 @@ const ACCEPTS: bool = false;
 
 // Control: sense is cleared first, or is not.
 fn control_row(l: Licence, b: Bar, a: Control, clears: bool) -> Rule
-    ensures { λ r. ⌜ r ≡ record { licence = l; bar = b; aim = Aim.Stays; names = Names.Nothing; act = Act.Control a; selects = selectsNone; serves = Serves.Nobody; excepts = accepts; clears = clears } ⌝ }
+    ensures { λ r. ⌜ r ≡ plainRow l b a clears ⌝ }
 {
     Rule {
         licence: l,
@@ -137,7 +131,7 @@ fn seek_row(k: Seeking) -> Rule
 
 // A search or a read that leaves its record selected: its count is read, with the key or not.
 fn selecting_row(a: Aim, key: bool, act: Act, v: Serves) -> Rule
-    ensures { λ r. ⌜ r ≡ record { licence = Licence.Any; bar = Bar.Nothing; aim = a; names = Names.Count key false; act = act; selects = selects; serves = v; excepts = accepts; clears = true } ⌝ }
+    ensures { λ r. ⌜ r ≡ lookRow a (Names.Count key false) act selects v accepts ⌝ }
 {
     Rule {
         licence: Licence::Any,
@@ -154,7 +148,7 @@ fn selecting_row(a: Aim, key: bool, act: Act, v: Serves) -> Rule
 
 // A search or a read that does not.
 fn leaving_row(a: Aim, n: Names, act: Act, x: bool) -> Rule
-    ensures { λ r. ⌜ r ≡ record { licence = Licence.Any; bar = Bar.Nothing; aim = a; names = n; act = act; selects = selectsNone; serves = Serves.Nobody; excepts = x; clears = true } ⌝ }
+    ensures { λ r. ⌜ r ≡ lookRow a n act selectsNone Serves.Nobody x ⌝ }
 {
     Rule {
         licence: Licence::Any,
@@ -239,7 +233,7 @@ fn write_of(code: u8) -> Rule
 
 // A search or a read of the home address.
 fn home_row(act: Act) -> Rule
-    ensures { λ r. ⌜ r ≡ record { licence = Licence.Any; bar = Bar.Nothing; aim = Aim.HomeAddress; names = Names.HomeAddress; act = act; selects = selectsNone; serves = Serves.Nobody; excepts = accepts; clears = true } ⌝ }
+    ensures { λ r. ⌜ r ≡ lookRow Aim.HomeAddress Names.HomeAddress act selectsNone Serves.Nobody accepts ⌝ }
 {
     leaving_row(Aim::HomeAddress, Names::HomeAddress, act, ACCEPTS)
 }

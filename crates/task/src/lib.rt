@@ -16,13 +16,13 @@ use table::Rule;
 ghost use mathlib.Core.Path.{_≡_};
 ghost use Prim.Native.Nat.{_≤_};
 ghost use Rattle.cells.specs.Cells.{trackCells, marks, pick, either};
-ghost use Rattle.rows.specs.declared.Row.the-variants as Row;
+ghost use Rattle.rows.specs.declared.{Row.Row};
 ghost use Rattle.hunt.specs.Hunt.{WholeTrack, countFirst, spacedTo};
 ghost use Rattle.held.specs.declared.Selection.the-variants.{Nothing, On};
 ghost use Rattle.command.specs.Command.{SelectedOn, equalId, equalIdOrKey, homeDone, recordWritten, task, marksOf, licensed, tallies, onRecord, onNext, onSelected, toNext, toServed, aimed, unlessBarred, planOf};
 ghost use Rattle.task.specs.Inside.{selectedPlace};
 ghost use Rattle.table.specs.Table.{ruleOf, looks, servesData, servesKey};
-ghost use Rattle.table.specs.declared.Aim.the-variants as Aim;
+ghost use Rattle.table.specs.declared.{Aim.Aim};
 ghost use Rattle.turn.specs.Turn.{alone};
 ghost use Rattle.command.specs.declared.Plan.the-variants.{Refuses, Works};
 
@@ -36,7 +36,7 @@ const WRITE_HOME: u8 = 0x19;
 
 const WRITE_R0: u8 = 0x15;
 
-const WRITE_RECORD: u8 = 0x1D;
+const WRITE_COUNT_KEY_DATA: u8 = 0x1D;
 
 // Where the head stands after home address work.
 const HOME_PLACE: u16 = 1;
@@ -65,7 +65,7 @@ fn home_done(before: u8, whole: bool) -> bool
 fn record_written(before: u8) -> bool
     ensures { λ r. ⌜ r ≡ recordWritten before ⌝ }
 {
-    before == WRITE_R0 || before == WRITE_RECORD
+    before == WRITE_R0 || before == WRITE_COUNT_KEY_DATA
 }
 
 // Whether a new record may be written.

@@ -15,17 +15,19 @@ const KEY_BYTE: usize = ADDRESS_WORD as usize;
 // A byte is two digits: what its left one counts.
 const DIGIT: u8 = 16;
 // A command word is 8 bytes on a multiple of 8.
-const WORD: u32 = 8;
+pub const WORD: u32 = 8;
 
 const WORD_BYTES: usize = WORD as usize;
 // Its bytes of flags and count.
 const FLAGS: usize = 4;
 
 const COUNT: usize = 6;
-// Flags other than 40 and 20: 80, and those below 20.
-const FLAG_80: u8 = 0x80;
+// Flags: 40 goes on to the next word, 20 lets incorrect length pass. Others are 80, and those below 20.
+pub const CHAINS: u8 = 0x40;
 
-const FLAG_20: u8 = 0x20;
+pub const SUPPRESSES: u8 = 0x20;
+
+const FLAG_80: u8 = 0x80;
 // The low digit of a TIC.
 const TIC: u8 = 8;
 // The channel status of a program check.
@@ -134,7 +136,7 @@ fn test_command(bytes: usize, w: Word) -> Tested
     if w.flags >= FLAG_80 {
         return Tested::Bad(Cause::Flags);
     }
-    if w.flags % FLAG_20 != 0 {
+    if w.flags % SUPPRESSES != 0 {
         return Tested::Bad(Cause::Flags);
     }
     if w.count == 0 {

@@ -17,13 +17,13 @@ use Rattle.room.proofs.Laws.{fits-ends}
 use Rattle.held.specs.declared.Selection.the-variants.{On}
 use Rattle.turn.specs.declared.{Ending.Ending, Transfer.Transfer, Report.Report}
 use Rattle.turn.specs.declared.Ending.the-variants.{Normal}
-use Rattle.command.specs.Command.{areaIf, named, task, allRecorded, Sight, sight, endingOf, piece, toEnd, homeTurn, recordTakes, newTurn, r0Turn, recordTurn, keySent, updateTurn, writeTurn}
+use Rattle.command.specs.Command.{areaIf, named, task, allRecorded, Sight, sight, failTurn, endingOf, piece, toEnd, homeTurn, recordTakes, newTurn, r0Turn, recordTurn, keySent, updateTurn, writeTurn}
 use Rattle.format.specs.Format.{newCounts, newRecord, recorded}
 use Rattle.table.specs.declared.{Write.Write}
 use Rattle.turn.specs.Turn.{Takes, alone, transferOf, reportOf}
 use Rattle.command.specs.declared.{Task.Task, Job.Job}
-use Rattle.ending.specs.Ending.{reportAt, checkReport}
-use Rattle.ending.proofs.Laws.{ended-at, ended, failed-by}
+use Rattle.ending.specs.Ending.{reportAt}
+use Rattle.ending.proofs.Laws.{ended-at, ended}
 use Rattle.writes.specs.Writes.{DoesWrite}
 use Rattle.writes.proofs.Calls.{flag-r0, recorded-is}
 
@@ -34,9 +34,9 @@ module _ (t : List ℕ) (j : Job) (v : List ℕ) where
   x = sight (alone t) j v
 
   module _ (k : Task) (first need : ℕ) (n : Counts) (c : List ℕ) (b : Bool) (r : Report) (q : b ≡ fits first need) where
-    pub new-fails : b ≡ false → r ≡ checkReport (j .position) (j .orders) NoRoom → r ≡ reportOf (newTurn x k first n need c)
-    unfolding newTurn sight
-    new-fails e f = f ∙ sym (failed-by x NoRoom) ∙ ap reportOf (sym (second-picked _ _ _ (sym q ∙ e)))
+    pub new-fails : b ≡ false → r ≡ reportOf (failTurn x NoRoom) → r ≡ reportOf (newTurn x k first n need c)
+    unfolding newTurn
+    new-fails e f = f ∙ ap reportOf (sym (second-picked _ _ _ (sym q ∙ e)))
 
     pub new-ends : (m : ℕ) → b ≡ true → m ≡ recordTakes v n → r ≡ reportAt j k Normal (Transfer.Takes m) false → r ≡ reportOf (newTurn x k first n need c)
     unfolding newTurn sight transferOf
@@ -115,9 +115,9 @@ module _ (t v : List ℕ) (key : Bool) (j : Job) (s : DoesWrite j (Write.Update 
   seen : b ≡ y .recorded
   seen = q ∙ recorded-is t v j (Write.Update key) s key refl
 
-  pub over-fails : b ≡ false → r ≡ checkReport (j .position) (j .orders) Unreadable → r ≡ reportOf (writeTurn (Write.Update key) y)
-  unfolding writeTurn updateTurn sight
-  over-fails e f = f ∙ sym (failed-by y Unreadable) ∙ ap reportOf (sym (second-picked _ _ _ (sym seen ∙ e)))
+  pub over-fails : b ≡ false → r ≡ reportOf (failTurn y Unreadable) → r ≡ reportOf (writeTurn (Write.Update key) y)
+  unfolding writeTurn updateTurn
+  over-fails e f = f ∙ ap reportOf (sym (second-picked _ _ _ (sym seen ∙ e)))
 
   pub over-ends : (i : ℕ) (z : Ending) → b ≡ true → i ≡ keySent key (j .counts) → z ≡ endingOf j
       → r ≡ reportAt j (j .task) z (Transfer.Takes (i + j .counts .dl)) false → r ≡ reportOf (writeTurn (Write.Update key) y)

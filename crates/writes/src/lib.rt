@@ -23,12 +23,9 @@ ghost use Rattle.recording.specs.Recording.{Lies};
 ghost use Rattle.format.specs.Format.{newCounts, newRecord};
 ghost use Rattle.turn.specs.Turn.{alone, lay, isCheck, reportOf};
 ghost use Rattle.command.specs.Command.{areaIf, named, allRecorded, sight, recordTakes, keySent, toEnd, r0Turn, recordTurn, writeTurn};
-ghost use Rattle.ending.specs.Ending.{checkReport};
 ghost use Rattle.writes.specs.Writes.{DoesWrite, goneOver, updated, Over};
 
 const HOME_BYTES: usize = 5;
-// The cell behind the home address, where R0 begins.
-const R0_FIRST: u16 = 7;
 // Bytes of a count that are sent.
 const COUNT_SENT: u32 = 8;
 
@@ -49,22 +46,13 @@ fn record_takes(sent: &[u8], n: Counts) -> u32
     COUNT_SENT + n.kl as u32 + n.dl as u32
 }
 
-// Unit Check for a row of the table.
-fn fail(j: Job, row: Row) -> Report
-    ensures { λ r. ⌜ r ≡ checkReport (j .position) (j .orders) row ⌝ }
-{
-    let position = j.position;
-    let orders = j.orders;
-    ending::failed(position, orders, row)
-}
-
 // Write R0.
 fn write_r0(flag: u8, j: Job, sent: &[u8]) -> Report
     ensures { λ r. ⌜ ((t : List ℕ) → r ≡ reportOf (r0Turn (sight (alone t) j (now (sent .entry))) flag)) ⌝ }
 {
     let n = format::new_counts(flag, sent);
-    if !room::has_room(R0_FIRST as u32, areas::record_cells(n)) {
-        return fail(j, Row::NoRoom);
+    if !room::has_room(cells::FIRST_MARKER as u32, areas::record_cells(n)) {
+        return ending::fails(j, Row::NoRoom);
     }
     let transfer = Transfer::Takes(record_takes(sent, n));
     ending::ended(j, Ending::Normal, transfer, false)
@@ -76,7 +64,7 @@ fn write_after(at: u32, flag: u8, j: Job, sent: &[u8]) -> Report
 {
     let n = format::new_counts(flag, sent);
     if !room::has_room(at, areas::cells_needed(n)) {
-        return fail(j, Row::NoRoom);
+        return ending::fails(j, Row::NoRoom);
     }
     let p = at as u16;
     let head = j.task.head;
@@ -113,7 +101,7 @@ fn write_over(key: bool, j: Job, track: &[u16]) -> Report
 {
     let n = j.counts;
     if !are_recorded(track, key, j.task.place, n) {
-        return fail(j, Row::Unreadable);
+        return ending::fails(j, Row::Unreadable);
     }
     let transfer = Transfer::Takes(key_sent(key, n) as u32 + n.dl as u32);
     ending::ended(j, ending::ending_of(j), transfer, false)
@@ -152,7 +140,7 @@ fn lay_home(sent: &[u8], track: &mut [u16])
     ensures { λ _. ⌜ now (track .exit) ≡ overlay (now (track .entry)) 0 (toEnd 0 (House.cellsWithCheck (padded homeBytes (now (sent .entry))))) ⌝ }
 {
     recording::write_area(track, 0, sent, HOME_BYTES);
-    recording::wipe(track, R0_FIRST as usize);
+    recording::wipe(track, cells::FIRST_MARKER as usize);
 }
 
 // Write R0, where it has room.
@@ -161,8 +149,11 @@ fn lay_r0(flag: u8, sent: &[u8], track: &mut [u16])
     ensures { λ _. ⌜ now (track .exit) ≡ overlay (now (track .entry)) r0First (toEnd r0First (newRecord flag (now (sent .entry)))) ⌝ }
 {
     let n = format::new_counts(flag, sent);
-    format::lay_record(track, R0_FIRST, flag, sent, n);
-    recording::wipe(track, R0_FIRST as usize + areas::record_cells(n) as usize);
+    format::lay_record(track, cells::FIRST_MARKER, flag, sent, n);
+    recording::wipe(
+        track,
+        cells::FIRST_MARKER as usize + areas::record_cells(n) as usize,
+    );
 }
 
 // Write Count Key Data, from a cell on where it has room.

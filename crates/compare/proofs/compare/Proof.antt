@@ -10,11 +10,11 @@ use Rattle.compare.proofs.compare.Statement.{statement}
 use Rattle.compare.proofs.compare.Tie as tie
 
 abbrev Inv-loop : tie.InvT-loop
-Inv-loop track first storage address m j₀ j =
-    (j ≤ m) × ((n : ℕ) × (comparedBytes track first storage address m ≡ left track first storage address m j n))
+Inv-loop track first sent from m j₀ j =
+    (j ≤ m) × ((n : ℕ) × (comparedBytes track first sent from m ≡ left track first sent from m j n))
 
 abbrev μ-loop : tie.MeasureT-loop
-μ-loop track first storage address m j₀ j = m - j
+μ-loop track first sent from m j₀ j = m - j
 
 loop-holds : tie.Need-loop-holds Inv-loop μ-loop
 loop-holds c = (omega arith, (0, left-all _ _ _ _ _))

@@ -10,13 +10,13 @@ use Rattle.areas.proofs.cells_needed.Reads as cells-needed-reads
 use Rattle.ending.proofs.ended_at.Reads as ended-at-reads
 use Rattle.format.proofs.new_counts.Reads as new-counts-reads
 use Rattle.room.proofs.has_room.Reads as has-room-reads
-use Rattle.writes.proofs.fail.Reads as fail-reads
+use Rattle.ending.proofs.fails.Reads as fails-reads
 use Rattle.writes.proofs.record_takes.Reads as record-takes-reads
 
 returns : tie.Need-returns
 returns c =
     let h = c .before .before in
-    λ t. record-told t _ _ _ _ (h .before .before .new-counts .ensures) _ _ _ (h .before .cells-needed .ensures) (new-fails t _ _ _ _ _ _ _ _ _ (h .has-room .ensures) (not-true _ (c .before .if1 .taken)) (c .fail .ensures))
+    λ t. record-told t _ _ _ _ (h .before .before .new-counts .ensures) _ _ _ (h .before .cells-needed .ensures) (new-fails t _ _ _ _ _ _ _ _ _ (h .has-room .ensures) (not-true _ (c .before .if1 .taken)) (c .fails .ensures _ _))
 
 cast-p : tie.Need-cast-p
 cast-p c =

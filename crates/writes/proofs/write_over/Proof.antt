@@ -6,11 +6,11 @@ use Rattle.writes.proofs.write_over.Statement.{statement}
 use Rattle.writes.proofs.write_over.Tie as tie
 use Rattle.ending.proofs.ended.Reads as ended-reads
 use Rattle.writes.proofs.are_recorded.Reads as are-recorded-reads
-use Rattle.writes.proofs.fail.Reads as fail-reads
+use Rattle.ending.proofs.fails.Reads as fails-reads
 use Rattle.writes.proofs.key_sent.Reads as key-sent-reads
 
 returns : tie.Need-returns
-returns c = λ v. over-fails _ v _ _ (c .before .before .before .before .before .pre) _ (c .before .before .are-recorded .ensures) _ (not-true _ (c .before .if1 .taken)) (c .fail .ensures)
+returns c = λ v. over-fails _ v _ _ (c .before .before .before .before .before .pre) _ (c .before .before .are-recorded .ensures) _ (not-true _ (c .before .if1 .taken)) (c .fails .ensures _ _)
 
 returns-2 : tie.Need-returns-2
 returns-2 c =

@@ -8,13 +8,13 @@ use Rattle.areas.proofs.record_cells.Reads as record-cells-reads
 use Rattle.ending.proofs.ended.Reads as ended-reads
 use Rattle.format.proofs.new_counts.Reads as new-counts-reads
 use Rattle.room.proofs.has_room.Reads as has-room-reads
-use Rattle.writes.proofs.fail.Reads as fail-reads
+use Rattle.ending.proofs.fails.Reads as fails-reads
 use Rattle.writes.proofs.record_takes.Reads as record-takes-reads
 
 returns : tie.Need-returns
 returns c =
     let h = c .before .before in
-    λ t. r0-told t _ _ _ _ (h .before .before .new-counts .ensures) _ _ (h .before .record-cells .ensures .0) (new-fails t _ _ _ _ _ _ _ _ _ (h .has-room .ensures) (not-true _ (c .before .if1 .taken)) (c .fail .ensures))
+    λ t. r0-told t _ _ _ _ (h .before .before .new-counts .ensures) _ _ (h .before .record-cells .ensures .0) (new-fails t _ _ _ _ _ _ _ _ _ (h .has-room .ensures) (not-true _ (c .before .if1 .taken)) (c .fails .ensures _ _))
 
 returns-2 : tie.Need-returns-2
 returns-2 c =

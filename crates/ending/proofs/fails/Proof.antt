@@ -1,10 +1,10 @@
 -- What is told of a Unit Check is what `ending::failed` tells.
 use mathlib.Core.Path.{sym, _∙_}
 use Rattle.command.specs.Command.{sight}
 use Rattle.ending.proofs.Laws.{failed-by}
 use borrow.Author.Needs.{needs}
-use Rattle.controls.proofs.fails.Statement.{statement}
-use Rattle.controls.proofs.fails.Tie as tie
+use Rattle.ending.proofs.fails.Statement.{statement}
+use Rattle.ending.proofs.fails.Tie as tie
 
 returns : tie.Need-returns
 unfolding sight
