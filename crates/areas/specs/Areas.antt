@@ -108,7 +108,8 @@ endBy c n = c + recordCells n
 unfoldable pub needed : Counts → ℕ
 needed n = 1 + recordCells n
 
--- bit 0, and bits 6 and 7, of a flag byte
+-- ---- flag bytes: bit 0 is the odd/even bit, bits 1 to 5 are 0, bits 6 and 7 are copied; bit 0 is the leftmost (DECISIONS 29)
+
 abbrev pub oddEven : ℕ → ℕ
 oddEven f = f / 128
 

@@ -7,7 +7,7 @@ use lib.Dec.{ltb, leb}
 use borrow.Author.Tests.{ltb-true, leb-true, lt-ltb, le-leb}
 use Rattle.cells.specs.Cells.{trackCells, marks}
 use Rattle.cells.proofs.Tests.{first-of, second-of, both-of}
-use Rattle.mask.specs.Mask.{legal}
+use Rattle.mask.specs.Mask.{isMask}
 use Rattle.words.specs.Words.{addresses}
 use Rattle.pack.specs.declared.{Shape.Shape}
 use Rattle.pack.specs.Pack.{cylinderOn, headOn}
@@ -19,13 +19,12 @@ use Rattle.held.specs.declared.{Selection.Selection, Position.Position, Orders.
 use Rattle.held.specs.declared.Selection.the-variants.{Nothing, On}
 use Rattle.turn.specs.Turn.{ordersOf}
 use Rattle.channel.specs.Channel.{World}
-use Rattle.chain.specs.Step.{trackUnder}
-use Rattle.chain.specs.Legal.{keys, positionFits, channelFits, selectionFits, ordersFit, heldFits, Legal}
+use Rattle.chain.specs.Step.{trackUnder, keys, positionFits, channelFits, selectionFits, ordersFit, heldFits, Legal}
 
 -- ---- where the head stands
 
 module _ (g : Shape) (s : Position) where
-  pub position-on : positionFits g s ≡ true → Tracks.On g (s .cylinder) (s .head)
+  pub position-on : positionFits g s ≡ true → Tracks.OnPack g (s .cylinder) (s .head)
   unfolding positionFits
   position-on e =
       let f = second-of (cylinderOn g (s .cylinder)) _ e in
@@ -35,7 +34,7 @@ module _ (g : Shape) (s : Position) where
   unfolding positionFits
   place-in e = leb-true _ _ (second-of (headOn g (s .head)) _ (second-of (cylinderOn g (s .cylinder)) _ e))
 
-  pub position-fits : Tracks.On g (s .cylinder) (s .head) → s .place ≤ trackCells → positionFits g s ≡ true
+  pub position-fits : Tracks.OnPack g (s .cylinder) (s .head) → s .place ≤ trackCells → positionFits g s ≡ true
   unfolding positionFits
   position-fits on p = both-of (lt-ltb _ _ (on .cylinder)) (both-of (lt-ltb _ _ (on .head)) (le-leb _ _ p))
 
@@ -62,17 +61,17 @@ selection-on m o Nothing e = tt
 selection-on m o (On spot) e = e
 
 module _ (m : List Bool) (o : Orders) where
-  pub mask-legal : ordersFit m o ≡ true → legal (o .mask) ≡ true
+  pub mask-legal : ordersFit m o ≡ true → isMask (o .mask) ≡ true
   unfolding ordersFit
-  mask-legal e = first-of (legal (o .mask)) _ e
+  mask-legal e = first-of (isMask (o .mask)) _ e
 
   pub tally-in : ordersFit m o ≡ true → o .tally ≤ mostTally
   unfolding ordersFit
-  tally-in e = leb-true _ _ (first-of (leb (o .tally) mostTally) _ (second-of (legal (o .mask)) _ e))
+  tally-in e = leb-true _ _ (first-of (leb (o .tally) mostTally) _ (second-of (isMask (o .mask)) _ e))
 
   pub selected-on : ordersFit m o ≡ true → SelectedOn m (o .selection)
   unfolding ordersFit
-  selected-on e = selection-on m o (o .selection) (second-of (leb (o .tally) mostTally) _ (second-of (legal (o .mask)) _ e))
+  selected-on e = selection-on m o (o .selection) (second-of (leb (o .tally) mostTally) _ (second-of (isMask (o .mask)) _ e))
 
 -- what a command leaves: this code before the next, and nothing selected or a record of the track, by its row
 leaves-fit : (m : List Bool) (o : Orders) (x : Selection) → Leaves m (ruleOf (o .before) .selects) x → selectionFits m o x ≡ true
@@ -81,7 +80,7 @@ leaves-fit m o Nothing e = ap not e
 leaves-fit m o (On spot) e = e
 
 pub ordered-fit : (m : List Bool) (mask : ℕ) (set : Bool) (code : ℕ) (whole : Bool) (tally : ℕ) (x : Selection)
-    → legal mask ≡ true → tally ≤ mostTally → Leaves m (ruleOf code .selects) x → ordersFit m (ordersOf mask set code whole tally x) ≡ true
+    → isMask mask ≡ true → tally ≤ mostTally → Leaves m (ruleOf code .selects) x → ordersFit m (ordersOf mask set code whole tally x) ≡ true
 unfolding ordersFit ordersOf
 ordered-fit m mask set code whole tally x l h k = both-of l (both-of (le-leb _ _ h) (leaves-fit m (ordersOf mask set code whole tally x) x k))
 

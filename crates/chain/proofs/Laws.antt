@@ -6,21 +6,20 @@ use mathlib.Core.List.{List}
 use native.Mathlib.Omega.{arith}
 use lib.ListN.{length, take, drop}
 use borrow.Rule.Slice.PartMut.{putMid}
-use Rattle.words.specs.declared.{Word.Word, Cause.Cause, Status.Status, Tested.Tested}
+use Rattle.words.specs.declared.{Word.Word, Cause.Cause, Tested.Tested}
 use Rattle.words.specs.declared.Tested.the-variants.{Obey}
 use Rattle.words.proofs.Obeys.{TestedIn, tested-in}
-use Rattle.words.specs.Words.{Reaches, tested, stored, programCheck}
+use Rattle.words.specs.Words.{AreaFits, tested, stored, programCheck}
 use Rattle.pack.specs.declared.{Shape.Shape}
 use Rattle.pack.specs.Pack.{startOf, trackAt, withTrack}
 use Rattle.pack.proofs.Laws.{lent-is, lent-back}
 use Rattle.held.specs.declared.{Held.Held}
 use Rattle.held.specs.Held.{rested}
 use Rattle.turn.specs.Turn.{Turn, lay}
-use Rattle.claim_frame.proofs.Here.{command-here}
-use Rattle.channel.specs.Channel.{fetched, World, world, wordEnd, turnOn, obeyedOn}
+use Rattle.command.proofs.Here.{command-here}
+use Rattle.channel.specs.Channel.{fetched, World, world, wordEnd, turnOn, obeyedOn, stops}
 use Rattle.channel.specs.Inside.{CanObey}
-use Rattle.chain.specs.Legal.{Legal}
-use Rattle.chain.specs.Step.{under, trackUnder, next, tracksOf, stops, turnOf, settled, obeyed, stepBy, step}
+use Rattle.chain.specs.Step.{Legal, under, trackUnder, next, tracksOf, turnOf, settled, obeyed, stepBy, step}
 use Rattle.chain.proofs.Fits.{key-in, selected-on, channeled, ordered}
 use Rattle.chain.proofs.Legal.{track-whole, turn-left, put-back}
 
@@ -29,16 +28,16 @@ world-eq p q r = λ i. record { held = p i; storage = q i; cells = r i }
 
 -- ---- a step
 
-pub stopped : (h r : Held) (cause : Cause) (x : Status) (s u c : List ℕ) → r ≡ rested (h .position) → x ≡ programCheck (h .channel .key) (h .channel .next) cause
-    → u ≡ stored s x → world r u c ≡ stops (world h s c) cause
+pub stopped : (h r : Held) (cause : Cause) (s u c : List ℕ) → r ≡ rested (h .position)
+    → u ≡ stored s (programCheck (h .channel .key) (h .channel .next) cause) → world r u c ≡ stops (world h s c) cause
 unfolding stops
-stopped h r cause x s u c p e q = world-eq p (q ∙ ap (stored s) e) refl
+stopped h r cause s u c p q = world-eq p q refl
 
 pub taken : (g : Shape) (w v : World) (x y : Tested) → x ≡ tested (w .storage) (w .held .channel .next) (w .held .channel .«after_tic») → x ≡ y → v ≡ stepBy g w y → v ≡ step g w
 unfolding step next
 taken g w v x y p q r = r ∙ ap (stepBy g w) (sym q ∙ p)
 
-pub word-reaches : (s : List ℕ) (at : ℕ) (tic : Bool) (x : Tested) (w : Word) → x ≡ tested s at tic → x ≡ Obey w → Reaches s w
+pub word-reaches : (s : List ℕ) (at : ℕ) (tic : Bool) (x : Tested) (w : Word) → x ≡ tested s at tic → x ≡ Obey w → AreaFits s w
 word-reaches s at tic x w p q = record { area = subst (TestedIn s) (sym p ∙ q) (tested-in s at tic) }
 
 -- ---- a command on the track under the head
@@ -56,7 +55,7 @@ module _ (g : Shape) (h : Held) (w : Word) (s cells : List ℕ) (L : Legal g (wo
   unfolding trackUnder under
   lent-there a e = lent-is cells a ∙ ap (trackAt cells) e
 
-  pub lent-serves : (a : ℕ) → a ≡ startOf g (h .position .cylinder) (h .position .head) → Reaches s w → CanObey h w s (take (a + 4096 - a) (drop a cells))
+  pub lent-serves : (a : ℕ) → a ≡ startOf g (h .position .cylinder) (h .position .head) → AreaFits s w → CanObey h w s (take (a + 4096 - a) (drop a cells))
   lent-serves a e r =
       subst (CanObey h w s) (sym (lent-there a e))
       (record {
@@ -76,7 +75,7 @@ module _ (g : Shape) (h : Held) (w : Word) (s cells : List ℕ) (L : Legal g (wo
   unfolding obeyedOn
   obeyed-there = ap (λ (x : Turn). wordEnd W w x (lay (x .lays) (trackUnder g W))) turn-there
 
-  pub commanded : (a : ℕ) (r : Held) (s′ t′ : List ℕ) → a ≡ startOf g (h .position .cylinder) (h .position .head) → a + 4096 ≤ length cells → Reaches s w
+  pub commanded : (a : ℕ) (r : Held) (s′ t′ : List ℕ) → a ≡ startOf g (h .position .cylinder) (h .position .head) → a + 4096 ≤ length cells → AreaFits s w
       → world r s′ t′ ≡ obeyedOn g (world h s (take (a + 4096 - a) (drop a cells))) w → length t′ ≡ length (take (a + 4096 - a) (drop a cells))
       → world r s′ (putMid a (a + 4096 - a) cells t′) ≡ obeyed g W w
   unfolding obeyed settled

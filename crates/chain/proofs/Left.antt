@@ -13,7 +13,7 @@ use Rattle.cells.proofs.Marks.{getD-marks, mark-here}
 use Rattle.cells.proofs.Tests.{pick-all, first-of, second-of}
 use Rattle.rows.specs.declared.{Row.Row}
 use Rattle.mask.specs.declared.{Seeking.Seeking}
-use Rattle.mask.specs.Mask.{legal}
+use Rattle.mask.specs.Mask.{isMask}
 use Rattle.house_check.specs.Check as House
 use Rattle.areas.specs.declared.{Counts.Counts}
 use Rattle.areas.specs.Areas.{homeBytes, r0First, keyArea, dataArea, recordCells, endBy, needed}
@@ -41,7 +41,7 @@ use Rattle.command.specs.declared.Plan.the-variants.{Refuses, Works}
 use Rattle.command.proofs.Planned.{takesRecord, isR0}
 use Rattle.command.proofs.Plans.{selectsOne, Leaves, NoMarker, TaskOn, PlanOn, PlanFree, plan-on, none-free, r0-free}
 use Rattle.command.proofs.Pieces.{PiecesOn, length-to-end, format-is, update-on}
-use Rattle.chain.specs.Legal.{positionFits, ordersFit}
+use Rattle.chain.specs.Step.{positionFits, ordersFit}
 use Rattle.chain.proofs.Fits.{position-on, place-in, position-fits, mask-legal, selected-on, ordered-fit}
 
 -- ---- what the table's rows have in common
@@ -193,9 +193,9 @@ module _ (g : Shape) (tr : Tracks) (s : Position) (o : Orders) (code : ℕ) (v :
 
     masks-left : (byte : ℕ) → r .selects ≡ false → Fine (maskTurn x byte)
     unfolding maskTurn maskedTurn positionAfter positionAt sight
-    masks-left byte none = go (legal byte) refl
+    masks-left byte none = go (isMask byte) refl
       where
-        go : (b : Bool) → legal byte ≡ b → Fine (pick b (pick (o .«mask_set») (failTurn x Row.SecondMask) (maskedTurn x byte)) (failTurn x Row.BadMask))
+        go : (b : Bool) → isMask byte ≡ b → Fine (pick b (pick (o .«mask_set») (failTurn x Row.SecondMask) (maskedTurn x byte)) (failTurn x Row.BadMask))
         go true e =
             let there = position-on g s ok in
             pick-all Fine (o .«mask_set») (fails-left Row.SecondMask)

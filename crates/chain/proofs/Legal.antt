@@ -9,10 +9,10 @@ use lib.ListN.{length, length-take}
 use Rattle.cells.specs.Cells.{pick, part, overlay, trackCells, marks}
 use Rattle.cells.proofs.Laws.{length-overlay, part-overlay}
 use Rattle.cells.proofs.Tests.{pick-all}
-use Rattle.mask.specs.Mask.{legal}
+use Rattle.mask.specs.Mask.{isMask}
 use Rattle.words.specs.declared.{Word.Word, Tested.Tested, Status.Status, Cause.Cause}
 use Rattle.words.specs.declared.Tested.the-variants.{Obey, Jump, Bad}
-use Rattle.words.specs.Words.{Reaches, stored, statusBytes, statusAt}
+use Rattle.words.specs.Words.{AreaFits, stored, statusBytes, statusAt}
 use Rattle.words.proofs.Obeys.{TestedIn, tested-in}
 use Rattle.pack.specs.declared.{Shape.Shape}
 use Rattle.pack.specs.Pack.{startOf, trackAt, withTrack}
@@ -21,11 +21,10 @@ use Rattle.hunt.specs.Hunt as Hunt
 use Rattle.held.specs.declared.{Position.Position, Held.Held}
 use Rattle.held.specs.Held.{fresh, freshOrders, freshChannel, rested}
 use Rattle.turn.specs.Turn.{Turn, given, reportOf, lay}
-use Rattle.channel.specs.Channel.{onward, stride, fetched, placed, goesOn, heldAfter, statusAfter, withStatus, storageAfter, World, world}
+use Rattle.channel.specs.Channel.{onward, stride, fetched, placed, goesOn, heldAfter, statusAfter, withStatus, storageAfter, World, world, stops, jumped}
 use Rattle.table.specs.Table.{controls, searches, reads, writes, find, ruleOf}
 use Rattle.command.proofs.Pieces.{length-laid}
-use Rattle.chain.specs.Step.{under, trackUnder, next, tracksOf, layOn, stops, jumped, turnOf, settled, obeyed, stepBy, step}
-use Rattle.chain.specs.Legal.{positionFits, channelFits, selectionFits, ordersFit, Legal}
+use Rattle.chain.specs.Step.{under, trackUnder, next, tracksOf, layOn, turnOf, settled, obeyed, stepBy, step, positionFits, channelFits, selectionFits, ordersFit, Legal}
 use Rattle.chain.proofs.Fits.{position-on, key-in, channel-fits, held-fits, standing, channeled, ordered}
 use Rattle.chain.proofs.Left.{Left, Chosen, anywhere, here, command-left}
 use Rattle.chain.proofs.Pack.{laid-on}
@@ -39,13 +38,13 @@ length-stored : (s : List ℕ) (x : Status) → 80 ≤ length s → length (stor
 unfolding stored
 length-stored s x h = length-overlay s statusAt (statusBytes x) (omega arith)
 
-length-placed : (s : List ℕ) (d : Word) (v : List ℕ) → Reaches s d → length (placed s d v) ≡ length s
+length-placed : (s : List ℕ) (d : Word) (v : List ℕ) → AreaFits s d → length (placed s d v) ≡ length s
 unfolding placed
 length-placed s d v r = length-overlay s (d .address) _ (omega (arith, length-take (d .count) v, r .area))
 
 -- a chain at its end
 fresh-orders : (m : List Bool) (s : Position) → ordersFit m (rested s .orders) ≡ true
-unfolding rested fresh freshOrders ordersFit selectionFits legal ruleOf find controls searches reads writes
+unfolding rested fresh freshOrders ordersFit selectionFits isMask ruleOf find controls searches reads writes
 fresh-orders m s = refl
 
 fresh-channel : (s : Position) → channelFits (rested s .channel) ≡ true
@@ -88,7 +87,7 @@ module _ (g : Shape) (w : World) (L : Legal g w) where
 
   -- ---- a command
 
-  module _ (d : Word) (x : Turn) (f : Left g (w .held .position) (trackUnder g w) x) (r : Reaches (w .storage) d) where
+  module _ (d : Word) (x : Turn) (f : Left g (w .held .position) (trackUnder g w) x) (r : AreaFits (w .storage) d) where
     abbrev cells′ : List ℕ
     cells′ = layOn g (w .held .position .cylinder) (x .lays) (w .cells)
 

@@ -8,8 +8,7 @@ use Rattle.cells.specs.Cells.{pick}
 use Rattle.pack.specs.declared.{Shape.Shape}
 use Rattle.cells.proofs.Tests.{pick-all}
 use Rattle.channel.specs.Channel.{World}
-use Rattle.chain.specs.Step.{step, run}
-use Rattle.chain.specs.Legal.{Legal}
+use Rattle.chain.specs.Step.{step, run, Legal}
 use Rattle.chain.proofs.Legal.{Sizes, step-legal, step-sizes}
 
 pub run-on : (g : Shape) (n : ℕ) (w : World) → w .held .channel .going ≡ true → run g (suc n) w ≡ run g n (step g w)

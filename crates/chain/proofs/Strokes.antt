@@ -23,8 +23,7 @@ use Rattle.turn.specs.Turn.{positionAt, after, ordersOf, Tracks, None, transfer
 use Rattle.channel.specs.Channel.{endsWell, stride, onward, fetched, placed, movesAny, lengthCounts, wrongLength, goesOn, heldAfter, withStatus, storageAfter, World, world}
 use Rattle.table.specs.Table.{ruleOf, find, controls}
 use Rattle.command.specs.Command.{licensed, aimed, unlessBarred, planOf, areasOf, allRead, countsIn, gets, areasRead, sight, positionAfter, senseAfter, ordersAfter, endTurnAt, endTurn, noOpTurn, controlTurn, actTurn, hasRead, readyBy, planReads, readyTurn, ruleTurn, command}
-use Rattle.chain.specs.Step.{next, tracksOf, layOn, turnOf, settled, obeyed, stepBy, step, run}
-use Rattle.chain.specs.Legal.{Legal}
+use Rattle.chain.specs.Step.{next, tracksOf, layOn, turnOf, settled, obeyed, stepBy, step, run, Legal}
 use Rattle.chain.specs.Stroke.{passes, passing, passed, Passed}
 use Rattle.chain.proofs.Laws.{world-eq}
 use Rattle.chain.proofs.Legal.{step-legal}

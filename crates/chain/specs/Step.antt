@@ -1,18 +1,23 @@
 -- One command word, and an allowance of them: the channel takes the word, the command has its turn, the pack takes the cells that it lays.
-use Prim.Native.Nat.{ℕ, zero, suc, _+_}
-use mathlib.Core.Bool.{Bool, true, false}
+-- Document 01, "What the host hears", refusals 2 to 4: what storage, pack and held state must be for that.
+use Prim.Native.Nat.{ℕ, zero, suc, _+_, _≤_}
+use mathlib.Core.Path.{_≡_}
+use mathlib.Core.Bool.{Bool, true, false, not}
 use mathlib.Core.List.{List, [], _∷_}
-use Rattle.cells.specs.Cells.{pick, overlay}
-use Rattle.words.specs.declared.{Word.Word, Cause.Cause, Tested.Tested}
-use Rattle.words.specs.Words.{along, tested, stored, programCheck}
+use lib.ListN.{length}
+use lib.Dec.{ltb, leb}
+use Rattle.cells.specs.Cells.{pick, both, overlay, trackCells, marks}
+use Rattle.mask.specs.Mask.{isMask}
+use Rattle.words.specs.declared.{Word.Word, Tested.Tested}
+use Rattle.words.specs.Words.{tested, addresses}
+use Rattle.hunt.specs.Hunt.{spotFits}
 use Rattle.pack.specs.declared.{Cylinder.Cylinder, Shape.Shape}
-use Rattle.pack.specs.Pack.{startOf, trackAt}
-use Rattle.held.specs.declared.{Held.Held}
-use Rattle.held.specs.Held.{rested}
+use Rattle.pack.specs.Pack.{startOf, trackAt, cylinderOn, headOn, WholePack}
+use Rattle.held.specs.declared.{Held.Held, Selection.Selection, Position.Position, Orders.Orders, Channel.Channel}
 use Rattle.table.specs.Table.{isWrite, ruleOf}
 use Rattle.turn.specs.Turn.{Tracks, TrackArea, Piece, Turn}
-use Rattle.command.specs.Command.{command}
-use Rattle.channel.specs.Channel.{fetched, World, world, wordEnd}
+use Rattle.command.specs.Command.{command, mostTally}
+use Rattle.channel.specs.Channel.{fetched, World, world, stops, jumped, wordEnd}
 
 -- the first cell of the track under the head, and that track
 unfoldable pub under : Shape → Held → ℕ
@@ -35,19 +40,6 @@ layOn g c [] cells = cells
 layOn g c (p ∷ l) cells = layOn g c l (overlay cells (startOf g c (p .head) + p .first) (p .cells))
 
 -- ---- one word
-
--- a program check ends the chain; sense and the place stand
-unfoldable pub stops : World → Cause → World
-stops w cause =
-    world (rested (w .held .position)) (stored (w .storage) (programCheck (w .held .channel .key) (w .held .channel .next) cause)) (w .cells)
-
--- a TIC: the next word is at its address, modulo 2 to the 24 like every next word's
-unfoldable pub jumped : Held → ℕ → Held
-jumped h a = record {
-  position = h .position;
-  orders = h .orders;
-  channel = record { going = h .channel .going; key = h .channel .key; next = along a 0; «after_tic» = true };
-}
 
 -- a command has its turn
 unfoldable pub turnOf : Shape → World → Word → Turn
@@ -88,3 +80,42 @@ unfoldable pub testedWrites : Tested → Bool
 testedWrites (Tested.Obey d) = isWrite (ruleOf (d .code) .act)
 testedWrites (Tested.Jump a) = false
 testedWrites (Tested.Bad cause) = false
+
+-- ---- refusals 2 and 4, and what they and 3 make sure of
+
+-- 2: the least storage, for the words at 64 and 72; the most
+abbrev pub leastStorage : ℕ
+leastStorage = 80
+
+unfoldable pub storageFits : ℕ → Bool
+storageFits n = both (leb leastStorage n) (leb n addresses)
+
+-- 4: off the pack, place over 4,096
+unfoldable pub positionFits : Shape → Position → Bool
+positionFits g s = both (cylinderOn g (s .cylinder)) (both (headOn g (s .head)) (leb (s .place) trackCells))
+
+-- key over 15, next address over 24 bits
+abbrev pub keys : ℕ
+keys = 16
+
+unfoldable pub channelFits : Channel → Bool
+channelFits c = both (ltb (c .key) keys) (ltb (c .next) addresses)
+
+-- a selection that is neither R0 nor a marker, or is missing where the command before leaves one
+unfoldable pub selectionFits : List Bool → Orders → Selection → Bool
+selectionFits m o Selection.Nothing = not (ruleOf (o .before) .selects)
+selectionFits m o (Selection.On spot) = spotFits m spot
+
+-- illegal mask, tally over 1
+unfoldable pub ordersFit : List Bool → Orders → Bool
+ordersFit m o = both (isMask (o .mask)) (both (leb (o .tally) mostTally) (selectionFits m o (o .selection)))
+
+unfoldable pub heldFits : Shape → World → Bool
+heldFits g w =
+    both (positionFits g (w .held .position)) (both (channelFits (w .held .channel)) (ordersFit (marks (trackUnder g w)) (w .held .orders)))
+
+-- what the refusals make sure of for a step
+pub record Legal (g : Shape) (w : World) : Type 0 where
+  pub whole : WholePack g (w .cells)
+  pub room : leastStorage ≤ length (w .storage)
+  pub held : heldFits g w ≡ true

@@ -12,8 +12,7 @@ use Rattle.pack.specs.declared.{Shape.Shape}
 use Rattle.held.specs.declared.{Held.Held, Selection.Selection}
 use Rattle.turn.specs.Turn.{after}
 use Rattle.channel.specs.Channel.{world}
-use Rattle.chain.specs.Step.{run}
-use Rattle.chain.specs.Legal.{Legal}
+use Rattle.chain.specs.Step.{run, Legal}
 
 -- No-op, with flag 40
 unfoldable pub passes : Word → Bool

@@ -8,21 +8,18 @@ use words::Cause;
 use words::Tested;
 use words::Word;
 ghost use mathlib.Core.Path.{_≡_};
-ghost use mathlib.Core.List.{List};
 ghost use mathlib.Core.Bool.{true, false};
 ghost use Prim.Native.Nat.{ℕ, _<_, _≤_};
-ghost use lib.ListN.{length};
-ghost use Rattle.words.specs.Words.{Reaches, tested};
+ghost use Rattle.words.specs.Words.{AreaFits, tested};
 ghost use Rattle.channel.specs.Channel.{world};
-ghost use Rattle.chain.specs.Step.{jumped, stops, obeyed, step, run};
-ghost use Rattle.chain.specs.Legal.{leastStorage, keys, Legal};
+ghost use Rattle.chain.specs.Step.{obeyed, step, run, Legal};
 ghost use Rattle.chain.specs.Stroke.{passes, passing, passed, Passed};
 
 const NO_OP: u8 = 0x03;
 
 // A command has its turn on the track under the head, whose cells are lent on.
 fn command(g: Shape, h: Held, w: Word, storage: &mut [u8], cells: &mut [u16]) -> Held
-    requires { ⌜ Legal g (world h (now storage) (now cells)) × Reaches (now storage) w ⌝ }
+    requires { ⌜ Legal g (world h (now storage) (now cells)) × AreaFits (now storage) w ⌝ }
     ensures { λ r. ⌜ world r (now (storage .exit)) (now (cells .exit)) ≡ obeyed g (world h (now (storage .entry)) (now (cells .entry))) w ⌝ }
 {
     let position = h.position;
@@ -33,36 +30,6 @@ fn command(g: Shape, h: Held, w: Word, storage: &mut [u8], cells: &mut [u16]) ->
     channel::obey(g, h, w, storage, &mut cells[start..end])
 }
 
-// A TIC.
-fn jump(h: Held, a: u32) -> Held
-    ensures { λ r. ⌜ r ≡ jumped h a ⌝ }
-{
-    let position = h.position;
-    let orders = h.orders;
-    let channel = Channel {
-        going: h.channel.going,
-        key: h.channel.key,
-        next: words::advanced(a, 0),
-        after_tic: true,
-    };
-    Held {
-        position,
-        orders,
-        channel,
-    }
-}
-
-// A program check.
-fn stop(h: Held, cause: Cause, storage: &mut [u8]) -> Held
-    requires { ⌜ (leastStorage ≤ length (now storage)) × (h .channel .key < keys) ⌝ }
-    ensures { λ r. ⌜ ((c : List ℕ) → world r (now (storage .exit)) c ≡ stops (world h (now (storage .entry)) c) cause) ⌝ }
-{
-    let position = h.position;
-    let status = words::program_check(h.channel.key, h.channel.next, cause);
-    words::store_status(storage, status);
-    Held::rested(position)
-}
-
 // One command word.
 pub fn step(g: Shape, h: Held, storage: &mut [u8], cells: &mut [u16]) -> Held
     requires { ⌜ Legal g (world h (now storage) (now cells)) ⌝ }
@@ -70,8 +37,8 @@ pub fn step(g: Shape, h: Held, storage: &mut [u8], cells: &mut [u16]) -> Held
 {
     match words::test(storage, h.channel.next, h.channel.after_tic) {
         Tested::Obey(w) => command(g, h, w, storage, cells),
-        Tested::Jump(a) => jump(h, a),
-        Tested::Bad(cause) => stop(h, cause, storage),
+        Tested::Jump(a) => channel::jump(h, a),
+        Tested::Bad(cause) => channel::stop(h, cause, storage),
     }
 }
 

@@ -13,15 +13,16 @@ use native.Mathlib.Nat.{add-zero}
 use Rattle.cells.proofs.Laws.{length-part, length-overlay, overlay-none, overlay-same}
 use Rattle.channel.proofs.Parts.{overlay-inner}
 use Rattle.rows.specs.declared.{Row.Row}
+use Rattle.table.specs.declared.{Control.Control, Act.Act}
 use Rattle.words.specs.declared.{Word.Word}
-use Rattle.words.specs.Words.{Reaches}
+use Rattle.words.specs.Words.{AreaFits}
 use Rattle.pack.specs.declared.{Shape.Shape}
 use Rattle.held.specs.declared.{Held.Held, Position.Position, Orders.Orders}
 use Rattle.turn.specs.declared.{Transfer.Transfer, Report.Report}
 use Rattle.turn.specs.Turn.{TrackArea, Piece, Moves, None, Gives, Takes, alone, given, transferOf, filled, Turn, reportOf, lay, isCheck, checkTurn}
 use Rattle.command.specs.declared.{Job.Job, Ready.Ready}
 use Rattle.command.specs.Command.{sight, readyOf}
-use Rattle.command.proofs.Moves.{LaysBy, Lays, acts-lay, checks-lay, check-lays}
+use Rattle.command.proofs.Acts.{LaysBy, Lays, check-keeps, acts-keeps}
 use Rattle.command.proofs.Comes.{job-acts, row-ends}
 use Rattle.unit.specs.Unit.{jobTurn, Accepts}
 use Rattle.ending.specs.Ending.{checkReport}
@@ -77,7 +78,7 @@ module _ (j : Job) (w : Word) (s t : List ℕ) where
   pub asked : (g : Shape) (d : Report) → d ≡ reportOf (jobTurn g t j sent) → d ≡ reportOf (wordTurn g j w s t)
   asked g d e = e ∙ ap reportOf (turn-is g)
 
-  pub gave : (u : List ℕ) → Reaches s w → ((g : Shape) (v : List ℕ) → u ≡ filled sent 0 (given (jobTurn g t j v .moves)))
+  pub gave : (u : List ℕ) → AreaFits s w → ((g : Shape) (v : List ℕ) → u ≡ filled sent 0 (given (jobTurn g t j v .moves)))
       → (g : Shape) → putMid (w .address) (w .address + w .count - w .address) s u ≡ placed s w (given (wordTurn g j w s t .moves))
   unfolding placed wordTurn
   gave u r e g = came-back s u _ _ (w .address) (w .count) (r .area) (e g (fetched s w)) refl
@@ -130,11 +131,11 @@ module _ (x : Turn) (d : Report) (h : Lays x) (told : d ≡ reportOf x) (w : Wor
 pub check-laid : (x : Turn) (d : Report) (t : List ℕ) (b : Bool) → Lays x → d ≡ reportOf x → b ≡ isCheck (d .ending) → b ≡ true → t ≡ lay (x .lays) t
 unfolding reportOf lay
 check-laid x d t b h told e f =
-    sym (ap (λ (l : List Piece). lay l t) (check-lays x h (sym (ap (λ (z : Report). isCheck (z .ending)) told) ∙ sym e ∙ f)))
+    sym (ap (λ (l : List Piece). lay l t) (h .checked (sym (ap (λ (z : Report). isCheck (z .ending)) told) ∙ sym e ∙ f)))
 
 pub job-lay : (g : Shape) (j : Job) (w : Word) (s t : List ℕ) → Lays (wordTurn g j w s t)
 unfolding wordTurn
-job-lay g j w s t = acts-lay (sight (alone t) j (fetched s w)) g (j .rule .act)
+job-lay g j w s t = acts-keeps (sight (alone t) j (fetched s w)) g (j .rule .act) .lays
 
 pub not-check : (g : Shape) (j : Job) (w : Word) (s t : List ℕ) (d : Report) (b : Bool) → d ≡ reportOf (wordTurn g j w s t) → b ≡ isCheck (d .ending) → b ≡ false
     → Accepts j (fetched s w) t
@@ -149,7 +150,7 @@ fails-turned : (st : Position) (o : Orders) (l : List TrackArea) (row : Row) (w 
 unfolding checkTurn given lay
 fails-turned st o l row w s t d e =
     let told : d ≡ reportOf (checkTurn st o l row) = e ∙ sym (failed st o l row) in
-    record { told = told; storage = placed-none (checkTurn st o l row) d (checks-lay st o l row) told w s t refl; track = refl }
+    record { told = told; storage = placed-none (checkTurn st o l row) d (check-keeps (Act.Control Control.NoOp) l (st .head) st o row .lays) told w s t refl; track = refl }
 
 module _ (g : Shape) (h : Held) (w : Word) (s t : List ℕ) (x : Ready) (ready : x ≡ readyOf (alone t) (h .position) (h .orders) (w .code)) where
   pub row-turned : (row : Row) (d : Report) → x ≡ Ready.Refuses row → d ≡ checkReport (h .position) (h .orders) row → Turned (turnOn g (world h s t) w) w s t s t d

@@ -1,13 +1,13 @@
 -- Document 01, "Channel words": the channel about a command. It alone fetches and places bytes, counts what moved and what is left, stores the status word
 -- and finds the next word. Of the track it knows only that it is lent on.
-use Prim.Native.Nat.{ℕ, _-_, min}
+use Prim.Native.Nat.{ℕ, _-_, min, _+_}
 use mathlib.Core.Bool.{Bool, true, false, not}
 use mathlib.Core.List.{List}
 use lib.ListN.{take}
 use lib.Dec.{ltb}
 use Rattle.cells.specs.Cells.{pick, both, either, part, overlay}
-use Rattle.words.specs.declared.{Word.Word, Status.Status}
-use Rattle.words.specs.Words.{along, chains, suppresses, stored, statusFor}
+use Rattle.words.specs.declared.{Cause.Cause, Word.Word, Status.Status}
+use Rattle.words.specs.Words.{wordBytes, along, chains, suppresses, stored, statusFor, programCheck}
 use Rattle.pack.specs.declared.{Shape.Shape}
 use Rattle.held.specs.declared.{Channel.Channel, Held.Held}
 use Rattle.held.specs.Held.{rested}
@@ -60,10 +60,10 @@ endsWell (Ending.Check row) = false
 
 -- satisfied: the next command word is 16 on, not 8
 unfoldable pub stride : Ending → ℕ
-stride Ending.Normal = 8
-stride Ending.Satisfied = 16
-stride Ending.Exception = 8
-stride (Ending.Check row) = 8
+stride Ending.Normal = wordBytes
+stride Ending.Satisfied = wordBytes + wordBytes
+stride Ending.Exception = wordBytes
+stride (Ending.Check row) = wordBytes
 
 -- ---- the end of a command: the chain goes on, or is at its end
 
@@ -102,7 +102,24 @@ pub record World : Type 0 where
 abbrev pub world : Held → List ℕ → List ℕ → World
 world h s c = record { held = h; storage = s; cells = c }
 
--- a word to obey is at its end: its command had this turn, and these are the cells then
+-- ---- a word that is no command
+
+-- a program check ends the chain; sense and the place stand
+unfoldable pub stops : World → Cause → World
+stops w cause =
+    world (rested (w .held .position)) (stored (w .storage) (programCheck (w .held .channel .key) (w .held .channel .next) cause)) (w .cells)
+
+-- a TIC: the next word is at its address, modulo 2 to the 24 like every next word's
+unfoldable pub jumped : Held → ℕ → Held
+jumped h a = record {
+  position = h .position;
+  orders = h .orders;
+  channel = record { going = h .channel .going; key = h .channel .key; next = along a 0; «after_tic» = true };
+}
+
+-- ---- a word to obey
+
+-- it is at its end: its command had this turn, and these are the cells then
 abbrev pub wordEnd : World → Word → Turn → List ℕ → World
 wordEnd w d x c = world (heldAfter (w .held .channel) d (reportOf x)) (storageAfter (w .held .channel) d x (w .storage)) c
 

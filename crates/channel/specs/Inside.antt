@@ -5,7 +5,7 @@ use mathlib.Core.List.{List}
 use lib.ListN.{length}
 use Rattle.cells.specs.Cells.{marks}
 use Rattle.words.specs.declared.{Word.Word}
-use Rattle.words.specs.Words.{wordBytes, Reaches, statusAt}
+use Rattle.words.specs.Words.{wordBytes, AreaFits, statusAt}
 use Rattle.hunt.specs.Hunt.{WholeTrack}
 use Rattle.pack.specs.declared.{Shape.Shape}
 use Rattle.held.specs.declared.{Held.Held}
@@ -34,6 +34,6 @@ pub record Turned (x : Turn) (w : Word) (s t s′ t′ : List ℕ) (d : Report) 
 pub record CanObey (h : Held) (w : Word) (s t : List ℕ) : Type 0 where
   pub room : statusAt + wordBytes ≤ length s
   pub key : h .channel .key < 16
-  pub reaches : Reaches s w
+  pub reaches : AreaFits s w
   pub whole : WholeTrack t
   pub selected : SelectedOn (marks t) (h .orders .selection)

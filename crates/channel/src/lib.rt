@@ -7,18 +7,20 @@ use pack::Shape;
 use turn::Ending;
 use turn::Report;
 use turn::Transfer;
+use words::Cause;
 use words::Status;
 use words::Word;
 ghost use mathlib.Core.Path.{_≡_};
-ghost use Prim.Native.Nat.{_<_, _≤_};
+ghost use Prim.Native.Nat.{_+_, _<_, _≤_};
 ghost use lib.ListN.{length};
 ghost use Rattle.cells.specs.Cells.{pick, marks};
 ghost use Rattle.turn.specs.Turn.{alone, given, wants, reportOf, lay, isCheck};
-ghost use Rattle.words.specs.Words.{Reaches};
+ghost use Rattle.words.specs.Words.{statusAt, wordBytes, AreaFits, stored, programCheck};
+ghost use Rattle.held.specs.Held.{rested};
 ghost use Rattle.hunt.specs.Hunt.{WholeTrack};
 ghost use Rattle.command.specs.Command.{SelectedOn, Sighted};
 ghost use Rattle.unit.specs.Unit.{Accepts};
-ghost use Rattle.channel.specs.Channel.{fetched, unitStatus, endsWell, stride, onward, placed, bytesMoved, movesAny, lengthCounts, wrongLength, goesOn, heldAfter, statusAfter, withStatus, world, turnOn, obeyedOn};
+ghost use Rattle.channel.specs.Channel.{fetched, unitStatus, endsWell, stride, onward, placed, bytesMoved, movesAny, lengthCounts, wrongLength, goesOn, heldAfter, statusAfter, withStatus, world, jumped, turnOn, obeyedOn};
 ghost use Rattle.channel.specs.Inside.{wordTurn, Asked, Turned, CanObey};
 
 // Unit status, and channel status.
@@ -154,7 +156,7 @@ fn status_after(c: Channel, w: Word, d: Report) -> Status
 
 // The end of a command: the chain goes on, or its status word is stored and it is at its end.
 fn settle(c: Channel, w: Word, d: Report, storage: &mut [u8]) -> Held
-    requires { ⌜ (72 ≤ length (now storage)) × (c .key < 16) ⌝ }
+    requires { ⌜ (statusAt + wordBytes ≤ length (now storage)) × (c .key < 16) ⌝ }
     ensures { λ r. ⌜ (r ≡ heldAfter c w d) × (now (storage .exit) ≡ withStatus c w d (now (storage .entry))) ⌝ }
 {
     let position = d.position;
@@ -174,7 +176,7 @@ fn settle(c: Channel, w: Word, d: Report, storage: &mut [u8]) -> Held
 
 // What a job tells of the bytes at a word's address.
 fn ask(g: Shape, j: Job, w: Word, storage: &[u8], track: &[u16]) -> Report
-    requires { ⌜ Reaches (now storage) w × WholeTrack (now track) × Sighted (alone (now track)) j ⌝ }
+    requires { ⌜ AreaFits (now storage) w × WholeTrack (now track) × Sighted (alone (now track)) j ⌝ }
     ensures { λ r. ⌜ r ≡ reportOf (wordTurn g j w (now (storage .entry)) (now (track .entry))) ⌝ }
 {
     let at = w.address as usize;
@@ -184,7 +186,7 @@ fn ask(g: Shape, j: Job, w: Word, storage: &[u8], track: &[u16]) -> Report
 
 // The bytes that a job gives, placed at a word's address.
 fn place(j: Job, w: Word, storage: &mut [u8], track: &[u16])
-    requires { ⌜ Reaches (now storage) w × Sighted (alone (now track)) j ⌝ }
+    requires { ⌜ AreaFits (now storage) w × Sighted (alone (now track)) j ⌝ }
     ensures { λ _. ⌜ ((g : Shape) → now (storage .exit) ≡ placed (now (storage .entry)) w
         (given (wordTurn g j w (now (storage .entry)) (now (track .entry)) .moves))) ⌝ }
 {
@@ -195,7 +197,7 @@ fn place(j: Job, w: Word, storage: &mut [u8], track: &[u16])
 
 // The cells that a job lays, of the bytes at a word's address.
 fn lay(j: Job, w: Word, storage: &[u8], track: &mut [u16])
-    requires { ⌜ Reaches (now storage) w × WholeTrack (now track) × Sighted (alone (now track)) j × Accepts j (fetched (now storage) w) (now track) ⌝ }
+    requires { ⌜ AreaFits (now storage) w × WholeTrack (now track) × Sighted (alone (now track)) j × Accepts j (fetched (now storage) w) (now track) ⌝ }
     ensures { λ _. ⌜ ((g : Shape) → now (track .exit)
         ≡ lay (wordTurn g j w (now (storage .entry)) (now (track .entry)) .lays) (now (track .entry))) ⌝ }
 {
@@ -206,7 +208,7 @@ fn lay(j: Job, w: Word, storage: &[u8], track: &mut [u16])
 
 // What is laid, unless the command ends in Unit Check.
 fn take(g: Shape, j: Job, w: Word, d: Report, storage: &[u8], track: &mut [u16])
-    requires { ⌜ Reaches (now storage) w × WholeTrack (now track) × Sighted (alone (now track)) j × Asked g j w (now storage) (now track) d ⌝ }
+    requires { ⌜ AreaFits (now storage) w × WholeTrack (now track) × Sighted (alone (now track)) j × Asked g j w (now storage) (now track) d ⌝ }
     ensures { λ _. ⌜ now (track .exit) ≡ lay (wordTurn g j w (now (storage .entry)) (now (track .entry)) .lays) (now (track .entry)) ⌝ }
 {
     let e = d.ending;
@@ -218,7 +220,7 @@ fn take(g: Shape, j: Job, w: Word, d: Report, storage: &[u8], track: &mut [u16])
 
 // A job that was asked gives its bytes, or lays what it took.
 fn move_bytes(g: Shape, j: Job, w: Word, d: Report, storage: &mut [u8], track: &mut [u16])
-    requires { ⌜ Reaches (now storage) w × WholeTrack (now track) × Sighted (alone (now track)) j × Asked g j w (now storage) (now track) d ⌝ }
+    requires { ⌜ AreaFits (now storage) w × WholeTrack (now track) × Sighted (alone (now track)) j × Asked g j w (now storage) (now track) d ⌝ }
     ensures { λ _. ⌜ Turned (wordTurn g j w (now (storage .entry)) (now (track .entry))) w (now (storage .entry)) (now (track .entry))
         (now (storage .exit)) (now (track .exit)) d ⌝ }
 {
@@ -231,7 +233,7 @@ fn move_bytes(g: Shape, j: Job, w: Word, d: Report, storage: &mut [u8], track: &
 }
 
 fn act(g: Shape, j: Job, w: Word, storage: &mut [u8], track: &mut [u16]) -> Report
-    requires { ⌜ Reaches (now storage) w × WholeTrack (now track) × Sighted (alone (now track)) j ⌝ }
+    requires { ⌜ AreaFits (now storage) w × WholeTrack (now track) × Sighted (alone (now track)) j ⌝ }
     ensures { λ r. ⌜ Turned (wordTurn g j w (now (storage .entry)) (now (track .entry))) w (now (storage .entry)) (now (track .entry))
         (now (storage .exit)) (now (track .exit)) r ⌝ }
 {
@@ -242,7 +244,7 @@ fn act(g: Shape, j: Job, w: Word, storage: &mut [u8], track: &mut [u16]) -> Repo
 
 // A command has its turn on a track.
 fn turn(g: Shape, h: Held, w: Word, storage: &mut [u8], track: &mut [u16]) -> Report
-    requires { ⌜ Reaches (now storage) w × WholeTrack (now track) × SelectedOn (marks (now track)) (h .orders .selection) ⌝ }
+    requires { ⌜ AreaFits (now storage) w × WholeTrack (now track) × SelectedOn (marks (now track)) (h .orders .selection) ⌝ }
     ensures { λ r. ⌜ Turned (turnOn g (world h (now (storage .entry)) (now (track .entry))) w) w (now (storage .entry)) (now (track .entry))
         (now (storage .exit)) (now (track .exit)) r ⌝ }
 {
@@ -252,6 +254,37 @@ fn turn(g: Shape, h: Held, w: Word, storage: &mut [u8], track: &mut [u16]) -> Re
         Ready::Refuses(row) => ending::failed(position, orders, row),
         Ready::Acts(j) => act(g, j, w, storage, track),
     }
+}
+
+// A TIC: the next word is at its address.
+pub fn jump(h: Held, a: u32) -> Held
+    ensures { λ r. ⌜ r ≡ jumped h a ⌝ }
+{
+    let position = h.position;
+    let orders = h.orders;
+    let channel = Channel {
+        going: h.channel.going,
+        key: h.channel.key,
+        next: words::advanced(a, 0),
+        after_tic: true,
+    };
+    Held {
+        position,
+        orders,
+        channel,
+    }
+}
+
+// A program check: its status word is stored, and the chain is at its end.
+pub fn stop(h: Held, cause: Cause, storage: &mut [u8]) -> Held
+    requires { ⌜ (statusAt + wordBytes ≤ length (now storage)) × (h .channel .key < 16) ⌝ }
+    ensures { λ r. ⌜ (r ≡ rested (h .position))
+        × (now (storage .exit) ≡ stored (now (storage .entry)) (programCheck (h .channel .key) (h .channel .next) cause)) ⌝ }
+{
+    let position = h.position;
+    let status = words::program_check(h.channel.key, h.channel.next, cause);
+    words::store_status(storage, status);
+    Held::rested(position)
 }
 
 // A word to obey: its command has its turn on the track under the head, and the channel ends it.

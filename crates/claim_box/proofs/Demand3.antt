@@ -19,8 +19,7 @@ use Rattle.pack.specs.Pack.{trackNo, startOf}
 use Rattle.held.specs.declared.{Held.Held}
 use Rattle.held.specs.Held.{fresh, freshChannel, rested}
 use Rattle.channel.specs.Channel.{World, world}
-use Rattle.chain.specs.Step.{under, trackUnder, step, run}
-use Rattle.chain.specs.Legal.{heldFits, Legal}
+use Rattle.chain.specs.Step.{under, trackUnder, step, run, heldFits, Legal}
 use Rattle.chain.proofs.Legal.{step-legal}
 use Rattle.chain.proofs.Runs.{run-on, run-idle, run-split, run-legal}
 use Rattle.host.specs.declared.{Answer.Answer, Guarded.Guarded}

@@ -28,11 +28,10 @@ use Rattle.pack.specs.Pack.{trackNo, startOf, trackAt}
 use Rattle.held.specs.declared.{Position.Position, Orders.Orders, Channel.Channel, Held.Held}
 use Rattle.held.specs.Held.{rested}
 use Rattle.turn.specs.Turn.{withSense, TrackArea, Piece, given, transferOf, wants, Turn, reportOf, isCheck, checkTurn}
-use Rattle.channel.specs.Channel.{unitStatus, endsWell, fetched, placed, bytesMoved, movesAny, lengthCounts, wrongLength, goesOn, heldAfter, statusAfter, withStatus, storageAfter, World, world}
+use Rattle.channel.specs.Channel.{unitStatus, endsWell, fetched, placed, bytesMoved, movesAny, lengthCounts, wrongLength, goesOn, heldAfter, statusAfter, withStatus, storageAfter, World, world, stops}
 use Rattle.command.specs.Command.{SelectedOn}
-use Rattle.claim_frame.proofs.Turns.{only-writes-lay}
-use Rattle.chain.specs.Step.{under, trackUnder, next, tracksOf, layOn, stops, turnOf, settled, obeyed, stepBy, step, testedReads, wordReads, testedWrites}
-use Rattle.chain.specs.Legal.{Legal}
+use Rattle.command.proofs.Turns.{only-writes-lay}
+use Rattle.chain.specs.Step.{under, trackUnder, next, tracksOf, layOn, turnOf, settled, obeyed, stepBy, step, testedReads, wordReads, testedWrites, Legal}
 use Rattle.chain.proofs.Fits.{selected-on, ordered}
 use Rattle.claim_damage.specs.Damage.{any, sameArea}
 use Rattle.claim_damage.proofs.Hurts.{Hurt, damaged-hurt, same-hurt, same-area}

@@ -10,7 +10,7 @@ use Rattle.house_check.specs.Check.{cellsWithCheck}
 use Rattle.areas.specs.declared.{Counts.Counts}
 use Rattle.areas.specs.Areas.{r0First, endBy, needed}
 use Rattle.room.specs.Room.{roomLeft, fits}
-use Rattle.mask.specs.Mask.{legal}
+use Rattle.mask.specs.Mask.{isMask}
 use Rattle.rows.specs.declared.{Row.Row}
 use Rattle.rows.specs.Rows.{sense}
 use Rattle.words.specs.Words.{addressWord, statusAt}
@@ -42,8 +42,8 @@ fullPack = record { cylinders = 203; heads = 10 }
 
 -- a command word
 abbrev pub word : ℕ → ℕ → ℕ → ℕ → List ℕ
-word code address flags countWith =
-    code ∷ address / 65536 ∷ address / 256 % 256 ∷ address % 256 ∷ flags ∷ 0 ∷ countWith / 256 ∷ countWith % 256 ∷ []
+word code address flags count =
+    code ∷ address / 65536 ∷ address / 256 % 256 ∷ address % 256 ∷ flags ∷ 0 ∷ count / 256 ∷ count % 256 ∷ []
 
 -- 512 bytes of storage: 72 holds 00000100, these words are at 256, these bytes at 128, and all else is zero
 abbrev pub storageWith : List ℕ → List ℕ → List ℕ
@@ -132,17 +132,17 @@ pub record Figures : Type 0 where
   -- 3. KL 4, DL 0 needs 21 cells
   pub three : needed (lengths 4 0) ≡ 21
   -- 4. mask D8 legal
-  pub four : legal 0xD8 ≡ true
+  pub four : isMask 0xD8 ≡ true
   pub four-going : maskWord 0x40 0xD8 .answer ≡ Answer.AllowanceUsed
   pub four-held : maskWord 0x40 0xD8 .left .held .orders .mask ≡ 0xD8
   pub four-end : maskWord 0x00 0xD8 .answer ≡ Answer.ChainEnded
   pub four-status : statusOf (maskWord 0x00 0xD8) ≡ 0x00 ∷ 0x00 ∷ 0x01 ∷ 0x08 ∷ 0x0C ∷ 0x00 ∷ 0x00 ∷ 0x00 ∷ []
   -- 5. 04 and 20 not
-  pub five-04 : legal 0x04 ≡ false
+  pub five-04 : isMask 0x04 ≡ false
   pub five-04-end : maskWord 0x40 0x04 .answer ≡ Answer.ChainEnded
   pub five-04-status : statusOf (maskWord 0x40 0x04) ≡ 0x00 ∷ 0x00 ∷ 0x01 ∷ 0x08 ∷ 0x0E ∷ 0x00 ∷ 0x00 ∷ 0x00 ∷ []
   pub five-04-sense : positionLeft (maskWord 0x40 0x04) .sense ≡ sense 0x80 0x00
-  pub five-20 : legal 0x20 ≡ false
+  pub five-20 : isMask 0x20 ≡ false
   pub five-20-end : maskWord 0x40 0x20 .answer ≡ Answer.ChainEnded
   pub five-20-status : statusOf (maskWord 0x40 0x20) ≡ 0x00 ∷ 0x00 ∷ 0x01 ∷ 0x08 ∷ 0x0E ∷ 0x00 ∷ 0x00 ∷ 0x00 ∷ []
   pub five-20-sense : positionLeft (maskWord 0x40 0x20) .sense ≡ sense 0x80 0x00

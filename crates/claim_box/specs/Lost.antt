@@ -29,7 +29,7 @@ writesBehind track high low =
 unfoldable pub far : List ℕ
 far = trackOf (homeWith 0 ++ countWith 0 2 0 0xFF 0xFF ++ cellsWithCheck (replicate 8 0))
 
-pub record Refused (track : List ℕ) (x : Hears) : Type 0 where
+pub record NotWritten (track : List ℕ) (x : Hears) : Type 0 where
   pub ended : x .answer ≡ Answer.ChainEnded
   -- 8 of 12 bytes moved
   pub status : statusOf x ≡ 0x00 ∷ 0x00 ∷ 0x01 ∷ 0x18 ∷ 0x0E ∷ 0x00 ∷ 0x00 ∷ 0x04 ∷ []
@@ -39,9 +39,9 @@ pub record Refused (track : List ℕ) (x : Hears) : Type 0 where
 pub record Lost : Type 0 where
   -- DL 4,055 behind an R0 of DL 8: room -1
   pub below : roomLeft (endBy r0First (lengths 0 8)) (needed (lengths 0 4055)) ≡ negsuc 0
-  pub below-refused : Refused idTwo (writesBehind idTwo 0x0F 0xD7)
+  pub below-refused : NotWritten idTwo (writesBehind idTwo 0x0F 0xD7)
   -- one byte less fits, and is written
   pub fits-written : statusOf (writesBehind idTwo 0x0F 0xD6) ≡ 0x00 ∷ 0x00 ∷ 0x01 ∷ 0x18 ∷ 0x0C ∷ 0x40 ∷ 0x00 ∷ 0x00 ∷ []
   -- DL 0 behind a count that says 65,535: its first cell would be 65,555
   pub far-first : endBy r0First (lengths 0 65535) ≡ 65555
-  pub far-refused : Refused far (writesBehind far 0 0)
+  pub far-refused : NotWritten far (writesBehind far 0 0)

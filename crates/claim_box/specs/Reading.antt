@@ -74,16 +74,16 @@ hurtData = set stocked 48 (cellOf 0)
 -- ---- chains, as a host starts them
 
 -- what the start leaves of a fresh box with this track, these words at 256, and at 128 the ID 00000000 and a byte
-abbrev pub begun : List ℕ → List ℕ → ℕ → World
-begun t words byte = starts onePack (world fresh (storageWith words (0 ∷ 0 ∷ 0 ∷ 0 ∷ byte ∷ [])) t) .left
+abbrev pub startedOn : List ℕ → List ℕ → ℕ → World
+startedOn t words byte = starts onePack (world fresh (storageWith words (0 ∷ 0 ∷ 0 ∷ 0 ∷ byte ∷ [])) t) .left
 
 -- one word, with 160 as its address
 abbrev pub oneWord : ℕ → ℕ → List ℕ
-oneWord code countWith = word code 160 0x00 countWith
+oneWord code count = word code 160 0x00 count
 
 -- .. chained from Search ID equal, which a TIC brings back to until it is satisfied
 abbrev pub chained : ℕ → ℕ → List ℕ
-chained code countWith = word 0x31 128 0x40 5 ++ word 0x08 256 0x00 0 ++ oneWord code countWith
+chained code count = word 0x31 128 0x40 5 ++ word 0x08 256 0x00 0 ++ oneWord code count
 
 -- the areas that a chain's next word reads, after so many words
 abbrev pub readsAfter : ℕ → World → List TrackArea
@@ -98,36 +98,36 @@ pub record Reading : Type 0 where
   pub sound : Sound stocked
   pub sound-alone : Sound homeAndR0
   -- home address work
-  pub search-home : readsAfter 0 (begun stocked (oneWord 0x39 4) 0) ≡ under0 (homeArea ∷ [])
-  pub read-home : readsAfter 0 (begun stocked (oneWord 0x1A 5) 0) ≡ under0 (homeArea ∷ [])
+  pub search-home : readsAfter 0 (startedOn stocked (oneWord 0x39 4) 0) ≡ under0 (homeArea ∷ [])
+  pub read-home : readsAfter 0 (startedOn stocked (oneWord 0x1A 5) 0) ≡ under0 (homeArea ∷ [])
   -- Search ID: the count only. It comes to R0, and back by the TIC, which reads nothing, to record 1
-  pub search-id : readsAfter 0 (begun stocked (chained 0x06 3) 1) ≡ under0 (r0Count ∷ [])
-  pub tic : readsAfter 1 (begun stocked (chained 0x06 3) 1) ≡ []
-  pub search-id-next : readsAfter 2 (begun stocked (chained 0x06 3) 1) ≡ under0 (oneCount ∷ [])
+  pub search-id : readsAfter 0 (startedOn stocked (chained 0x06 3) 1) ≡ under0 (r0Count ∷ [])
+  pub tic : readsAfter 1 (startedOn stocked (chained 0x06 3) 1) ≡ []
+  pub search-id-next : readsAfter 2 (startedOn stocked (chained 0x06 3) 1) ≡ under0 (oneCount ∷ [])
   -- chained from it, satisfied by record 1. Read Data: count and data of the record selected, the key is passed over
-  pub read-data : readsAfter 3 (begun stocked (chained 0x06 3) 1) ≡ under0 (oneCount ∷ oneData ∷ [])
-  pub read-key-data : readsAfter 3 (begun stocked (chained 0x0E 5) 1) ≡ under0 (oneCount ∷ oneKey ∷ oneData ∷ [])
-  pub search-key : readsAfter 3 (begun stocked (chained 0x29 2) 1) ≡ under0 (oneCount ∷ oneKey ∷ [])
-  pub space-record : readsAfter 3 (begun stocked (chained 0x0F 1) 1) ≡ []
+  pub read-data : readsAfter 3 (startedOn stocked (chained 0x06 3) 1) ≡ under0 (oneCount ∷ oneData ∷ [])
+  pub read-key-data : readsAfter 3 (startedOn stocked (chained 0x0E 5) 1) ≡ under0 (oneCount ∷ oneKey ∷ oneData ∷ [])
+  pub search-key : readsAfter 3 (startedOn stocked (chained 0x29 2) 1) ≡ under0 (oneCount ∷ oneKey ∷ [])
+  pub space-record : readsAfter 3 (startedOn stocked (chained 0x0F 1) 1) ≡ []
   -- .. satisfied by R0, at once
-  pub read-data-r0 : readsAfter 1 (begun stocked (chained 0x06 8) 0) ≡ under0 (r0Count ∷ r0Data ∷ [])
+  pub read-data-r0 : readsAfter 1 (startedOn stocked (chained 0x06 8) 0) ≡ under0 (r0Count ∷ r0Data ∷ [])
   -- Read Count: the count only, of the next record, so that R0 is passed
-  pub read-count : readsAfter 0 (begun stocked (oneWord 0x12 8) 0) ≡ under0 (oneCount ∷ [])
+  pub read-count : readsAfter 0 (startedOn stocked (oneWord 0x12 8) 0) ≡ under0 (oneCount ∷ [])
   -- Read R0: not the home address; the key if there is one
-  pub read-r0 : readsAfter 0 (begun stocked (oneWord 0x16 18) 0) ≡ under0 (r0Count ∷ r0Key ∷ r0Data ∷ [])
-  pub read-r0-keyless : readsAfter 0 (begun homeAndR0 (oneWord 0x16 16) 0) ≡ under0 (r0Count ∷ area Part.Data 18 8 ∷ [])
+  pub read-r0 : readsAfter 0 (startedOn stocked (oneWord 0x16 18) 0) ≡ under0 (r0Count ∷ r0Key ∷ r0Data ∷ [])
+  pub read-r0-keyless : readsAfter 0 (startedOn homeAndR0 (oneWord 0x16 16) 0) ≡ under0 (r0Count ∷ area Part.Data 18 8 ∷ [])
   -- Read CKD; and of a record with DL 0, the next after record 2 was found
-  pub read-count-key-data : readsAfter 0 (begun stocked (oneWord 0x1E 13) 0) ≡ under0 (oneCount ∷ oneKey ∷ oneData ∷ [])
-  pub read-count-key-data-empty : readsAfter 5 (begun stocked (chained 0x1E 12) 2) ≡ under0 (threeCount ∷ threeKey ∷ [])
+  pub read-count-key-data : readsAfter 0 (startedOn stocked (oneWord 0x1E 13) 0) ≡ under0 (oneCount ∷ oneKey ∷ oneData ∷ [])
+  pub read-count-key-data-empty : readsAfter 5 (startedOn stocked (chained 0x1E 12) 2) ≡ under0 (threeCount ∷ threeKey ∷ [])
   -- a row that ends a command first, so that it reads nothing: no marker on the track, 00 02
-  pub no-marker : readsAfter 0 (begun homeAndR0 (oneWord 0x29 2) 0) ≡ []
-  pub no-marker-sense : positionLeft (goes onePack 1 (begun homeAndR0 (oneWord 0x29 2) 0)) .sense ≡ sense 0x00 0x02
+  pub no-marker : readsAfter 0 (startedOn homeAndR0 (oneWord 0x29 2) 0) ≡ []
+  pub no-marker-sense : positionLeft (goes onePack 1 (startedOn homeAndR0 (oneWord 0x29 2) 0)) .sense ≡ sense 0x00 0x02
   -- the second index point, 00 08: the first Search ID, below place 7, passes none, the second passes one, the third another
-  pub first-index : readsAfter 2 (begun homeAndR0 (chained 0x06 3) 1) ≡ under0 (r0Count ∷ [])
-  pub second-index : readsAfter 4 (begun homeAndR0 (chained 0x06 3) 1) ≡ []
-  pub second-index-sense : positionLeft (goes onePack 5 (begun homeAndR0 (chained 0x06 3) 1)) .sense ≡ sense 0x00 0x08
+  pub first-index : readsAfter 2 (startedOn homeAndR0 (chained 0x06 3) 1) ≡ under0 (r0Count ∷ [])
+  pub second-index : readsAfter 4 (startedOn homeAndR0 (chained 0x06 3) 1) ≡ []
+  pub second-index-sense : positionLeft (goes onePack 5 (startedOn homeAndR0 (chained 0x06 3) 1)) .sense ≡ sense 0x00 0x08
   -- a count that is not readable: the count alone, its lengths are not used
-  pub bad-count : readsAfter 0 (begun hurtCount (oneWord 0x1E 13) 0) ≡ under0 (oneCount ∷ [])
+  pub bad-count : readsAfter 0 (startedOn hurtCount (oneWord 0x1E 13) 0) ≡ under0 (oneCount ∷ [])
 
 -- ---- demand 3 by example
 
@@ -139,20 +139,20 @@ touches x (suc n) w =
 
 -- Search ID, satisfied by R0; Space Record, which passes record 1's marker; Read CKD of record 2
 abbrev pub pastOne : List ℕ → World
-pastOne t = begun t (word 0x31 128 0x40 5 ++ replicate 8 0 ++ word 0x0F 128 0x40 1 ++ oneWord 0x1E 14) 0
+pastOne t = startedOn t (word 0x31 128 0x40 5 ++ replicate 8 0 ++ word 0x0F 128 0x40 1 ++ oneWord 0x1E 14) 0
 
 abbrev pub passesOne : List ℕ → Hears
 passesOne t = goes onePack 3 (pastOne t)
 
 -- Read Count, and Read Data, of record 1
 abbrev pub countOfOne : List ℕ → World
-countOfOne t = begun t (oneWord 0x12 8) 0
+countOfOne t = startedOn t (oneWord 0x12 8) 0
 
 abbrev pub dataOfOne : List ℕ → World
-dataOfOne t = begun t (oneWord 0x06 3) 0
+dataOfOne t = startedOn t (oneWord 0x06 3) 0
 
-abbrev pub meets : World → Hears
-meets w = goes onePack 1 w
+abbrev pub oneWordOn : World → Hears
+oneWordOn w = goes onePack 1 w
 
 -- n of the bytes that a chain has moved there
 abbrev pub movedTo : Hears → ℕ → List ℕ
@@ -178,23 +178,23 @@ pub record NotEmpty : Type 0 where
   pub past-same-storage : passesOne hurtCount .left .storage ≡ passesOne stocked .left .storage
   -- a word reads the damaged count: 08 80, no byte moves, and nothing is stored but the status word
   pub count-read : touches oneCount 1 (countOfOne hurtCount) ≡ true
-  pub count-end : meets (countOfOne hurtCount) .answer ≡ Answer.ChainEnded
-  pub count-storage : meets (countOfOne hurtCount) .left .storage
+  pub count-end : oneWordOn (countOfOne hurtCount) .answer ≡ Answer.ChainEnded
+  pub count-storage : oneWordOn (countOfOne hurtCount) .left .storage
       ≡ overlay (countOfOne hurtCount .storage) statusAt (0x00 ∷ 0x00 ∷ 0x01 ∷ 0x08 ∷ 0x0E ∷ 0x00 ∷ 0x00 ∷ 0x08 ∷ [])
-  pub count-position : positionLeft (meets (countOfOne hurtCount)) ≡ positionOn 0 0 0 0x08 0x80
-  pub count-cells : meets (countOfOne hurtCount) .left .cells ≡ hurtCount
+  pub count-position : positionLeft (oneWordOn (countOfOne hurtCount)) ≡ positionOn 0 0 0 0x08 0x80
+  pub count-cells : oneWordOn (countOfOne hurtCount) .left .cells ≡ hurtCount
   -- .. and without the damage its 8 bytes
-  pub count-undamaged-end : meets (countOfOne stocked) .answer ≡ Answer.ChainEnded
-  pub count-undamaged-status : statusOf (meets (countOfOne stocked)) ≡ 0x00 ∷ 0x00 ∷ 0x01 ∷ 0x08 ∷ 0x0C ∷ 0x00 ∷ 0x00 ∷ 0x00 ∷ []
-  pub count-undamaged-bytes : movedTo (meets (countOfOne stocked)) 8 ≡ 0 ∷ 0 ∷ 0 ∷ 0 ∷ 1 ∷ 2 ∷ 0 ∷ 3 ∷ []
+  pub count-undamaged-end : oneWordOn (countOfOne stocked) .answer ≡ Answer.ChainEnded
+  pub count-undamaged-status : statusOf (oneWordOn (countOfOne stocked)) ≡ 0x00 ∷ 0x00 ∷ 0x01 ∷ 0x08 ∷ 0x0C ∷ 0x00 ∷ 0x00 ∷ 0x00 ∷ []
+  pub count-undamaged-bytes : movedTo (oneWordOn (countOfOne stocked)) 8 ≡ 0 ∷ 0 ∷ 0 ∷ 0 ∷ 1 ∷ 2 ∷ 0 ∷ 3 ∷ []
   -- a word reads the damaged data: 08 00
   pub data-read : touches oneData 1 (dataOfOne hurtData) ≡ true
-  pub data-end : meets (dataOfOne hurtData) .answer ≡ Answer.ChainEnded
-  pub data-storage : meets (dataOfOne hurtData) .left .storage
+  pub data-end : oneWordOn (dataOfOne hurtData) .answer ≡ Answer.ChainEnded
+  pub data-storage : oneWordOn (dataOfOne hurtData) .left .storage
       ≡ overlay (dataOfOne hurtData .storage) statusAt (0x00 ∷ 0x00 ∷ 0x01 ∷ 0x08 ∷ 0x0E ∷ 0x00 ∷ 0x00 ∷ 0x03 ∷ [])
-  pub data-position : positionLeft (meets (dataOfOne hurtData)) ≡ positionOn 0 0 0 0x08 0x00
-  pub data-cells : meets (dataOfOne hurtData) .left .cells ≡ hurtData
+  pub data-position : positionLeft (oneWordOn (dataOfOne hurtData)) ≡ positionOn 0 0 0 0x08 0x00
+  pub data-cells : oneWordOn (dataOfOne hurtData) .left .cells ≡ hurtData
   -- .. and without the damage its 3 bytes
-  pub data-undamaged-end : meets (dataOfOne stocked) .answer ≡ Answer.ChainEnded
-  pub data-undamaged-status : statusOf (meets (dataOfOne stocked)) ≡ 0x00 ∷ 0x00 ∷ 0x01 ∷ 0x08 ∷ 0x0C ∷ 0x00 ∷ 0x00 ∷ 0x00 ∷ []
-  pub data-undamaged-bytes : movedTo (meets (dataOfOne stocked)) 3 ≡ 1 ∷ 2 ∷ 3 ∷ []
+  pub data-undamaged-end : oneWordOn (dataOfOne stocked) .answer ≡ Answer.ChainEnded
+  pub data-undamaged-status : statusOf (oneWordOn (dataOfOne stocked)) ≡ 0x00 ∷ 0x00 ∷ 0x01 ∷ 0x08 ∷ 0x0C ∷ 0x00 ∷ 0x00 ∷ 0x00 ∷ []
+  pub data-undamaged-bytes : movedTo (oneWordOn (dataOfOne stocked)) 3 ≡ 1 ∷ 2 ∷ 3 ∷ []

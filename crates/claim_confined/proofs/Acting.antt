@@ -26,8 +26,8 @@ use Rattle.table.proofs.Laws.{every, each, of-every}
 use Rattle.turn.specs.Turn.{Tracks, TrackArea, Turn, checkTurn}
 use Rattle.command.specs.declared.Plan.the-variants.{Refuses, Works}
 use Rattle.command.proofs.Planned.{isR0, isSelected}
-use Rattle.claim_frame.specs.Frame.{planHead}
-use Rattle.claim_frame.proofs.Here.{plans-here}
+use Rattle.command.specs.Frame.{planHead}
+use Rattle.command.proofs.Here.{plans-here}
 use Rattle.claim_confined.specs.Confined.{bars}
 
 -- ---- what the rows of the writes have in common: 15 takes R0; 1D, 05 and 0D the record selected, whose count they read

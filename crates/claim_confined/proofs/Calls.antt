@@ -13,8 +13,7 @@ use Rattle.words.specs.declared.Tested.the-variants.{Obey, Jump, Bad}
 use Rattle.words.specs.Words.{begunBy}
 use Rattle.pack.specs.declared.{Shape.Shape}
 use Rattle.channel.specs.Channel.{World}
-use Rattle.chain.specs.Step.{run}
-use Rattle.chain.specs.Legal.{Legal}
+use Rattle.chain.specs.Step.{run, Legal}
 use Rattle.host.specs.declared.Answer.the-variants.{BadStart, NoChain, ChainGoing}
 use Rattle.host.specs.declared.{Guarded.Guarded}
 use Rattle.host.specs.declared.Guarded.the-variants.{Passes, Answers}

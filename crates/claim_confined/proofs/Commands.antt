@@ -19,10 +19,10 @@ use Rattle.table.specs.declared.{Write.Write, Act.Act, Rule.Rule}
 use Rattle.turn.specs.Turn.{Tracks, Piece, Moves, None, Gives, Takes, given, transferOf, wants, Turn, reportOf, lay, isCheck, checkTurn}
 use Rattle.command.specs.declared.{Task.Task}
 use Rattle.command.specs.Command.{Sight, sight, allRecorded, goesOver, writesOver, writeTurn, actTurn, jobOf, command}
-use Rattle.claim_frame.specs.Frame.{givesBytes}
-use Rattle.claim_frame.proofs.Acts.{acts-keeps}
-use Rattle.claim_frame.proofs.Turns.{check-lays, only-reads-give}
-use Rattle.claim_frame.proofs.Here.{lays-here}
+use Rattle.command.specs.Frame.{givesBytes}
+use Rattle.command.proofs.Acts.{acts-keeps}
+use Rattle.command.proofs.Turns.{check-lays, only-reads-give}
+use Rattle.command.proofs.Here.{lays-here}
 use Rattle.channel.specs.Channel.{placed, bytesMoved}
 use Rattle.claim_confined.specs.Confined as Confined
 use Rattle.claim_confined.specs.Confined.{among, reaches, reachesFrom, actReaches, mayChange, mayStore, trackAfter, CommandConfined}
@@ -47,8 +47,8 @@ module _ (g : Shape) (t : Tracks) (s : Position) (o : Orders) (code : ℕ) (v : 
         go (Acting.takes spot p q c) = (λ j. reaches w (q j) (c j) i) ∙ ap (λ (y : Selection). reachesFrom w (t (s .head)) y i) (sym p)
 
     write-reaches : (w : Write) → aptWrite w r ≡ true → (i : ℕ)
-        → reaches w (k .place) n i ≡ reachesFrom w (t (s .head)) (Confined.takes w (o .selection)) i
-    unfolding aptWrite Confined.takes reachesFrom reaches
+        → reaches w (k .place) n i ≡ reachesFrom w (t (s .head)) (Confined.recordTaken w (o .selection)) i
+    unfolding aptWrite Confined.recordTaken reachesFrom reaches
     write-reaches Write.HomeAddress e i = refl
     write-reaches Write.R0 e i = refl
     write-reaches Write.CountKeyData e i = selected-reaches Write.CountKeyData e i

@@ -42,7 +42,7 @@ spot-same : (x y : Spot) → On x ≡ On y → x ≡ y
 spot-same x y e = cc
 
 module _ (g : Shape) (t : Tracks) (s : Position) (o : Orders) (code : ℕ) (v : List ℕ) (r : Rule) (w : Write) (spot : Spot)
-    (act : r .act ≡ Act.Write w) (apt : aptWrite w r ≡ true) (on : Confined.takes w (o .selection) ≡ On spot)
+    (act : r .act ≡ Act.Write w) (apt : aptWrite w r ≡ true) (on : Confined.recordTaken w (o .selection) ≡ On spot)
     (tight : hasRoom w (countFirst spot) v (t (s .head)) ≡ false) where
   module _ (k : Task) (n : Counts) (A : Acting t s o r k n) where
     abbrev x : Sight
@@ -67,9 +67,9 @@ module _ (g : Shape) (t : Tracks) (s : Position) (o : Orders) (code : ℕ) (v : 
         ∙ (λ i. fits (endBy (countFirst (z i)) (countsAt (t (s .head)) (countFirst (z i))))
         (needed (newCounts (flagAfter (countsAt (t (s .head)) (countFirst (z i)) .flag)) v))) ∙ e)
 
-    lays-tight : (u : Write) → aptWrite u r ≡ true → Confined.takes u (o .selection) ≡ On spot → hasRoom u (countFirst spot) v (t (s .head)) ≡ false
+    lays-tight : (u : Write) → aptWrite u r ≡ true → Confined.recordTaken u (o .selection) ≡ On spot → hasRoom u (countFirst spot) v (t (s .head)) ≡ false
         → writeTurn u x ≡ failTurn x Row.NoRoom
-    unfolding writeTurn hasRoom aptWrite Confined.takes sight
+    unfolding writeTurn hasRoom aptWrite Confined.recordTaken sight
     lays-tight Write.HomeAddress a p e = absurd (false≢true (sym e))
     lays-tight Write.R0 a p e = zero-tight _ e
     lays-tight Write.CountKeyData a p e = record-tight p (acting-takes t s o r k n A a) e
@@ -85,9 +85,9 @@ module _ (g : Shape) (t : Tracks) (s : Position) (o : Orders) (code : ℕ) (v : 
 
   -- ---- where no earlier row holds
 
-  aims-record : (u : Write) → aptWrite u r ≡ true → Confined.takes u (o .selection) ≡ On spot → hasRoom u (countFirst spot) v (t (s .head)) ≡ false
+  aims-record : (u : Write) → aptWrite u r ≡ true → Confined.recordTaken u (o .selection) ≡ On spot → hasRoom u (countFirst spot) v (t (s .head)) ≡ false
       → aimed r (marksOf t) s o (r .aim) ≡ onRecord r o (s .head) spot 0
-  unfolding hasRoom aptWrite onSelection Confined.takes onSelected
+  unfolding hasRoom aptWrite onSelection Confined.recordTaken onSelected
   aims-record Write.HomeAddress a p e = absurd (false≢true (sym e))
   aims-record Write.R0 a p e =
       aimed-r0 t s o r (r .aim) a ∙ ap (λ (y : Spot). onRecord r o (s .head) y 0) (spot-same Spot.R0 spot p)
@@ -120,7 +120,7 @@ module _ (g : Shape) (t : Tracks) (s : Position) (o : Orders) (code : ℕ) (v : 
         ∙ acts-tight there n (record { licence = l; mask = m; aims = aims-there; here = refl; sees = reads })
 
 module _ (g : Shape) (t : Tracks) (s : Position) (o : Orders) (code : ℕ) (v : List ℕ) (w : Write) (spot : Spot) (act : ruleOf code .act ≡ Act.Write w)
-    (on : Confined.takes w (o .selection) ≡ On spot) (tight : hasRoom w (countFirst spot) v (t (s .head)) ≡ false) where
+    (on : Confined.recordTaken w (o .selection) ≡ On spot) (tight : hasRoom w (countFirst spot) v (t (s .head)) ≡ false) where
   row-is : NoRowBefore t s o code spot
       → command g t s o code v ≡ checkTurn s o (areasOf (ruleOf code .names) t (s .head) (countFirst spot)) Row.NoRoom
   unfolding command

@@ -21,8 +21,7 @@ use Rattle.held.specs.declared.{Selection.Selection, Orders.Orders}
 use Rattle.table.specs.declared.{Act.Act, Rule.Rule}
 use Rattle.command.specs.Command.{licensed}
 use Rattle.channel.specs.Channel.{World}
-use Rattle.chain.specs.Step.{under, trackUnder, next, step, run, testedWrites}
-use Rattle.chain.specs.Legal.{Legal}
+use Rattle.chain.specs.Step.{under, trackUnder, next, step, run, testedWrites, Legal}
 use Rattle.chain.proofs.Legal.{step-legal}
 use Rattle.claim_confined.specs.Confined.{among, actReaches, bars, mayChange, wordChanges, changes, spares, sparesCell, sparesByte, writesOn, sparesTrack, RunConfined}
 use Rattle.claim_confined.proofs.Outside.{out-test}

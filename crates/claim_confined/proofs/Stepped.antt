@@ -19,9 +19,8 @@ use Rattle.pack.proofs.Laws.{others-kept}
 use Rattle.turn.specs.declared.Ending.the-variants.{Check}
 use Rattle.table.specs.Table.{ruleOf}
 use Rattle.turn.specs.Turn.{Turn, given, reportOf, lay}
-use Rattle.channel.specs.Channel.{fetched, placed, bytesMoved, goesOn, statusAfter, withStatus, storageAfter, World}
-use Rattle.chain.specs.Step.{under, trackUnder, next, tracksOf, stops, turnOf, settled, obeyed, stepBy, step}
-use Rattle.chain.specs.Legal.{Legal}
+use Rattle.channel.specs.Channel.{fetched, placed, bytesMoved, goesOn, statusAfter, withStatus, storageAfter, World, stops}
+use Rattle.chain.specs.Step.{under, trackUnder, next, tracksOf, turnOf, settled, obeyed, stepBy, step, Legal}
 use Rattle.chain.proofs.Legal.{inside, track-whole, turn-left, put-back, step-sizes}
 use Rattle.claim_confined.specs.Confined.{among, mayChange, mayStore, trackAfter, CommandConfined, wordChanges, changes, inStatus, wordStores, stores, StepConfined}
 use Rattle.claim_confined.proofs.Outside.{pick-by, neither, out-of, out-test, in-between, overlay-kept, overlay-inside}

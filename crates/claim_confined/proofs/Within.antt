@@ -23,7 +23,7 @@ use Rattle.table.specs.declared.{Write.Write}
 use Rattle.turn.specs.Turn.{Piece, Turn, lay, checkTurn}
 use Rattle.command.specs.declared.{Task.Task}
 use Rattle.command.proofs.Pieces.{length-to-end, Over, over-in}
-use Rattle.claim_frame.specs.Frame.{LaysUnder}
+use Rattle.command.specs.Frame.{LaysUnder}
 use Rattle.claim_confined.specs.Confined.{among, inArea, inKey, inData, reaches, OnTrack}
 use Rattle.claim_confined.proofs.Outside.{in-between, overlay-kept, pick-by}
 

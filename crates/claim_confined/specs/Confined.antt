@@ -2,7 +2,7 @@
 -- that data area with its check, a Key and Data update those two areas, Write HA, R0 and 1D only their own area or record and what lies behind it;
 -- nothing changes without mask and licence; a command that ends in Unit Check changes no cell. Storage changes only where a read or Sense put its
 -- bytes and in bytes 64 to 71 by a stored status word (68 and 69 by answer 5)." What may change is said by the command's row of the table and by what is
--- held and recorded, never by what a turn lays or gives.
+-- held and recorded, never by what a turn lays or gives; of the turn only how many bytes moved is taken, and whether the chain ends.
 use Prim.Native.Nat.{ℕ, zero, suc, _+_, _-_, _*_, _<_, _≤_, min}
 use mathlib.Core.Path.{_≡_}
 use mathlib.Core.Bool.{Bool, true, false, not}
@@ -32,10 +32,9 @@ use Rattle.table.specs.declared.{Bar.Bar, Write.Write, Act.Act, Rule.Rule}
 use Rattle.table.specs.Table.{ruleOf}
 use Rattle.turn.specs.Turn.{Tracks, Piece, given, reportOf, lay, checkTurn}
 use Rattle.command.specs.Command.{licensed, areasOf, gets, command}
-use Rattle.claim_frame.specs.Frame.{givesBytes}
+use Rattle.command.specs.Frame.{givesBytes}
 use Rattle.channel.specs.Channel.{placed, bytesMoved, goesOn, World}
-use Rattle.chain.specs.Step.{under, trackUnder, next, turnOf, step, run, testedWrites}
-use Rattle.chain.specs.Legal.{Legal}
+use Rattle.chain.specs.Step.{under, trackUnder, next, turnOf, step, run, testedWrites, Legal}
 use Rattle.host.specs.declared.{Answer.Answer, Guarded.Guarded}
 use Rattle.host.specs.Host.{guardOf, starts, goes}
 
@@ -65,11 +64,11 @@ reaches Write.CountKeyData c n i = leb (endBy c n) i
 reaches (Write.Update key) c n i = either (both key (inKey c n i)) (inData c n i)
 
 -- the record that it takes: R0 for the two that go to the index, else the one selected
-unfoldable pub takes : Write → Selection → Selection
-takes Write.HomeAddress x = Selection.On Spot.R0
-takes Write.R0 x = Selection.On Spot.R0
-takes Write.CountKeyData x = x
-takes (Write.Update key) x = x
+unfoldable pub recordTaken : Write → Selection → Selection
+recordTaken Write.HomeAddress x = Selection.On Spot.R0
+recordTaken Write.R0 x = Selection.On Spot.R0
+recordTaken Write.CountKeyData x = x
+recordTaken (Write.Update key) x = x
 
 unfoldable pub reachesFrom : Write → List ℕ → Selection → ℕ → Bool
 reachesFrom k t Selection.Nothing i = false
@@ -79,7 +78,7 @@ unfoldable pub actReaches : Act → List ℕ → Selection → ℕ → Bool
 actReaches (Act.Control a) t x i = false
 actReaches (Act.Search h) t x i = false
 actReaches (Act.Read counted) t x i = false
-actReaches (Act.Write k) t x i = reachesFrom k t (takes k x) i
+actReaches (Act.Write k) t x i = reachesFrom k t (recordTaken k x) i
 
 -- barred by the mask
 unfoldable pub bars : Bar → ℕ → Bool
@@ -233,4 +232,4 @@ pub record Confined (g : Shape) : Type 0 where
   pub allowance : (n : ℕ) (w : World) → Legal g w → RunConfined g n w
   pub call : (n : ℕ) (w : World) → CallConfined g n w
   pub room : (t : Tracks) (s : Position) (o : Orders) (code : ℕ) (v : List ℕ) (k : Write) (spot : Spot) → ruleOf code .act ≡ Act.Write k
-      → takes k (o .selection) ≡ Selection.On spot → hasRoom k (countFirst spot) v (t (s .head)) ≡ false → RoomKept g t s o code v spot
+      → recordTaken k (o .selection) ≡ Selection.On spot → hasRoom k (countFirst spot) v (t (s .head)) ≡ false → RoomKept g t s o code v spot

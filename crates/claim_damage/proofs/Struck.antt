@@ -23,11 +23,11 @@ use Rattle.table.proofs.Laws.{each, every, of-every}
 use Rattle.turn.specs.Turn.{Tracks, TrackArea, checkTurn}
 use Rattle.command.specs.declared.{Plan.Plan}
 use Rattle.command.proofs.Planned.{takesRecord, Planned, refuses, stays, home, takes, plan-is}
-use Rattle.claim_frame.specs.Frame.{AllSame, Breaks, ReadsUnder}
-use Rattle.claim_frame.proofs.Turns.{command-reads}
-use Rattle.claim_frame.proofs.Kept.{still-kept}
-use Rattle.claim_frame.proofs.Broken.{command-broken}
-use Rattle.claim_frame.proofs.Here.{reads-here}
+use Rattle.command.specs.Frame.{AllSame, Breaks, ReadsUnder}
+use Rattle.command.proofs.Turns.{command-reads}
+use Rattle.command.proofs.Kept.{still-kept}
+use Rattle.command.proofs.Broken.{command-broken}
+use Rattle.command.proofs.Here.{reads-here}
 use Rattle.claim_damage.specs.Damage.{IsRecord, Own, ownHome, ownCount, ownKey, ownData, any}
 use Rattle.claim_damage.proofs.Hurts.{Hurt}
 

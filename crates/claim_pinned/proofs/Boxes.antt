@@ -19,7 +19,7 @@ use Rattle.sound.specs.Tracks.{homeAndR0}
 use Rattle.claim_box.specs.Figures.{word, storageWith, onePack, zeroTrack, searchThenNoOp}
 use Rattle.claim_box.proofs.Opened.{box}
 use Rattle.claim_box.proofs.Pinned.{one-outcome}
-use Rattle.claim_pinned.specs.Boxes.{allUnder, lent, rightBox, runBy, steppedBy, refusesAlways, replied, fixedReply, doesNothing, checksRead, takesChecking, dataChecksReads, wordsCounted, atOnce, runsAtOnce, inventedAfter, settledInventing, takesInventing, inventsCount, ShutOutAll, OneBox}
+use Rattle.claim_pinned.specs.Boxes.{allUnder, lent, rightBox, runBy, steppedBy, refusesAlways, replied, fixedReply, doesNothing, checksRead, stepChecking, dataChecksReads, wordsCounted, atOnce, runsAtOnce, inventedAfter, settledInventing, stepInventing, inventsCount, ShutOutAll, OneBox}
 
 -- ---- chains to tell them by, each begun on a box that was fresh
 
@@ -44,7 +44,7 @@ abbrev twoWords : World
 twoWords = world (beginning fresh 0 256) searchThenNoOp homeAndR0
 
 pub shut-out : ShutOutAll
-unfolding box allUnder lent runBy steppedBy refusesAlways replied fixedReply doesNothing checksRead takesChecking dataChecksReads wordsCounted atOnce runsAtOnce inventedAfter settledInventing takesInventing inventsCount
+unfolding box allUnder lent runBy steppedBy refusesAlways replied fixedReply doesNothing checksRead stepChecking dataChecksReads wordsCounted atOnce runsAtOnce inventedAfter settledInventing stepInventing inventsCount
 shut-out = record {
   refusing-always = λ a m.
       let z : _≡_ {A = ℕ} 0 0x4C = ap (byteLeft 68) (m .go-so onePack 1 (homeSought homeAndR0) (lit≤ tt) refl) in

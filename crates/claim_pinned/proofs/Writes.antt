@@ -13,9 +13,9 @@ last false = refl
 pub writes : WritesNeed
 unfolding command oneOf follows
 writes = record {
-  home = record { licence = λ o. refl; mask = λ m p. refl };
-  r0 = record { licence = λ o. simp (last) refl; mask = λ m p. refl };
-  count-key-data = record { licence = λ o. simp (last) refl; mask = λ m p. refl };
-  body = record { licence = λ o. simp (last) refl; mask = λ m p. refl };
-  key-and-body = record { licence = λ o. simp (last) refl; mask = λ m p. refl };
+  home = record { act = refl; licence = λ o. refl; mask = λ m p. refl };
+  r0 = record { act = refl; licence = λ o. simp (last) refl; mask = λ m p. refl };
+  count-key-data = record { act = refl; licence = λ o. simp (last) refl; mask = λ m p. refl };
+  body = record { act = refl; licence = λ o. simp (last) refl; mask = λ m p. refl };
+  key-and-body = record { act = refl; licence = λ o. simp (last) refl; mask = λ m p. refl };
 }

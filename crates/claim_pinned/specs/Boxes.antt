@@ -87,13 +87,13 @@ checksRead g w d (Act.Search h) = obeyed g w d
 checksRead g w d (Act.Read c) = settled g w d (checkTurn (w .held .position) (w .held .orders) [] Row.Unreadable)
 checksRead g w d (Act.Write a) = obeyed g w d
 
-unfoldable pub takesChecking : Shape → World → Tested → World
-takesChecking g w (Tested.Obey d) = checksRead g w d (ruleOf (d .code) .act)
-takesChecking g w (Tested.Jump a) = stepBy g w (Tested.Jump a)
-takesChecking g w (Tested.Bad cause) = stepBy g w (Tested.Bad cause)
+unfoldable pub stepChecking : Shape → World → Tested → World
+stepChecking g w (Tested.Obey d) = checksRead g w d (ruleOf (d .code) .act)
+stepChecking g w (Tested.Jump a) = stepBy g w (Tested.Jump a)
+stepChecking g w (Tested.Bad cause) = stepBy g w (Tested.Bad cause)
 
 unfoldable pub dataChecksReads : Box
-dataChecksReads = steppedBy (λ g w. takesChecking g w (next w))
+dataChecksReads = steppedBy (λ g w. stepChecking g w (next w))
 
 -- ---- "Running the whole chain at once and merely counting afterwards": storage and tracks are those after `most` words; the words are
 -- counted, the answer is told from the count, and what is held is what should be held after the allowance. For a chain that ends within
@@ -123,13 +123,13 @@ unfoldable pub settledInventing : (Word → ℕ) → Shape → World → Word �
 settledInventing left g w d t =
     world (settled g w d t .held) (inventedAfter left (w .held .channel) d (reportOf t) (placed (w .storage) d (given (t .moves)))) (settled g w d t .cells)
 
-unfoldable pub takesInventing : (Word → ℕ) → Shape → World → Tested → World
-takesInventing left g w (Tested.Obey d) = settledInventing left g w d (turnOf g w d)
-takesInventing left g w (Tested.Jump a) = stepBy g w (Tested.Jump a)
-takesInventing left g w (Tested.Bad cause) = stepBy g w (Tested.Bad cause)
+unfoldable pub stepInventing : (Word → ℕ) → Shape → World → Tested → World
+stepInventing left g w (Tested.Obey d) = settledInventing left g w d (turnOf g w d)
+stepInventing left g w (Tested.Jump a) = stepBy g w (Tested.Jump a)
+stepInventing left g w (Tested.Bad cause) = stepBy g w (Tested.Bad cause)
 
 unfoldable pub inventsCount : (Word → ℕ) → Box
-inventsCount left = steppedBy (λ g w. takesInventing left g w (next w))
+inventsCount left = steppedBy (λ g w. stepInventing left g w (next w))
 
 -- ---- all six, whatever the answer, the status word, the number of words (from two on) and the invention
 

@@ -56,7 +56,7 @@ isSelected Aim.Selected = true
 -- the record that a command takes: R0 or the one selected, x, if that is its aim; one of the track, if x is
 pub record Taken (m : List Bool) (x : Selection) (a : Aim) (spot : Spot) : Type 0 where
   pub fits : SelectedOn m x → spotFits m spot ≡ true
-  pub zero : isR0 a ≡ true → spot ≡ Spot.R0
+  pub r0 : isR0 a ≡ true → spot ≡ Spot.R0
   pub selected : isSelected a ≡ true → x ≡ On spot
 
 -- ---- the plans
@@ -87,13 +87,13 @@ module _ (m : Marks) (r : Rule) (s : Position) (o : Orders) where
     unfolding onSelected SelectedOn
     selected-is Nothing other k = k
     selected-is (On spot) other k =
-        record-is (On spot) a spot 0 (record { fits = λ f. f; zero = λ e. absurd (false≢true (sym z ∙ e)); selected = λ e. refl })
+        record-is (On spot) a spot 0 (record { fits = λ f. f; r0 = λ e. absurd (false≢true (sym z ∙ e)); selected = λ e. refl })
 
     module _ (q : isSelected a ≡ false) where
       next-is : (x : Selection) (y : Next) → NextOn (m (s .head)) y → Is x a (onNext r o (s .head) y)
       unfolding onNext
       next-is x (Next.ComesTo spot n) f =
-          record-is x a spot n (record { fits = λ i. f; zero = λ e. absurd (false≢true (sym z ∙ e)); selected = λ e. absurd (false≢true (sym q ∙ e)) })
+          record-is x a spot n (record { fits = λ i. f; r0 = λ e. absurd (false≢true (sym z ∙ e)); selected = λ e. absurd (false≢true (sym q ∙ e)) })
       next-is x Next.NoMarker f = refuses _
 
       to-next-is : (x : Selection) → Is x a (toNext r m s o)
@@ -108,7 +108,7 @@ module _ (m : Marks) (r : Rule) (s : Position) (o : Orders) where
   unfolding aimed isR0 isSelected spotFits
   aimed-is Aim.Stays = stays refl
   aimed-is Aim.HomeAddress = home refl
-  aimed-is Aim.R0 = record-is _ Aim.R0 Spot.R0 0 (record { fits = λ i. refl; zero = λ e. refl; selected = λ e. absurd (false≢true e) })
+  aimed-is Aim.R0 = record-is _ Aim.R0 Spot.R0 0 (record { fits = λ i. refl; r0 = λ e. refl; selected = λ e. absurd (false≢true e) })
   aimed-is Aim.NextId = next-is Aim.NextId refl refl _ _ (id-on (m (s .head)) (s .place))
   aimed-is Aim.Next = to-next-is Aim.Next refl refl _
   aimed-is Aim.NextForData = served-is Aim.NextForData refl refl _

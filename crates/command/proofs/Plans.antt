@@ -92,4 +92,4 @@ module _ (r : Rule) (m : Marks) (s : Position) (o : Orders) where
 
   pub r0-free : isR0 (r .aim) ≡ true → PlanFree (planOf r m s o)
   r0-free e =
-      planned-free (λ spot k. subst (λ (y : Spot). NoMarker (pick (r .selects) (On y) Nothing)) (sym (k .zero e)) (r0-chosen (r .selects))) _ (plan-is m r s o)
+      planned-free (λ spot k. subst (λ (y : Spot). NoMarker (pick (r .selects) (On y) Nothing)) (sym (k .r0 e)) (r0-chosen (r .selects))) _ (plan-is m r s o)

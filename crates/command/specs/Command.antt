@@ -8,9 +8,8 @@ use lib.ListN.{length, getD, take, drop, replicate}
 use lib.Dec.{ltb, leb, eqb}
 use Rattle.cells.specs.Cells.{pick, both, either, be16, number, part, padded, trackCells, marker, gap, marks}
 use Rattle.rows.specs.declared.{Row.Row, Sense.Sense}
-use Rattle.rows.specs.Rows.{sense}
 use Rattle.mask.specs.declared.{Seeking.Seeking}
-use Rattle.mask.specs.Mask.{legal, barsSeek, barsWrite}
+use Rattle.mask.specs.Mask.{isMask, barsSeek, barsWrite}
 use Rattle.house_check.specs.Check.{cellsWithCheck}
 use Rattle.areas.specs.declared.{Area.Area, Part.Part, Counts.Counts, CountRead.CountRead}
 use Rattle.areas.specs.Areas.{readable, areaBytes, rowOf, homeArea, homeBytes, r0First, countArea, countsAt, readCount, keyArea, dataArea, recordCells, endBy, needed, flagOfR0, flagAfter}
@@ -23,6 +22,7 @@ use Rattle.compare.specs.Compare.{compared}
 use Rattle.pack.specs.declared.{Cylinder.Cylinder, Head.Head, Shape.Shape, Sought.Sought}
 use Rattle.pack.specs.Pack.{cylinder, head, seekTo, seekHead}
 use Rattle.held.specs.declared.{Selection.Selection, Position.Position, Orders.Orders}
+use Rattle.held.specs.Held.{noSense}
 use Rattle.format.specs.Format.{recorded, newCounts, newRecord}
 use Rattle.table.specs.declared.{How.How, Licence.Licence, Bar.Bar, Aim.Aim, Names.Names, Control.Control, Write.Write, Act.Act, Rule.Rule}
 use Rattle.table.specs.Table.{ruleOf, looks, servesData, servesKey, isHome}
@@ -241,7 +241,7 @@ failTurn x row = checkTurn (x .job .position) (x .job .orders) (x .reads) row
 
 -- commands but Sense and No-op clear sense first
 unfoldable pub senseAfter : Job → Sense
-senseAfter j = pick (j .rule .clears) (sense 0 0) (j .position .sense)
+senseAfter j = pick (j .rule .clears) noSense (j .position .sense)
 
 unfoldable pub positionAfter : Job → Task → Position
 positionAfter j k = positionAt (j .position .cylinder) (k .head) (k .place) (senseAfter j)
@@ -305,7 +305,7 @@ maskedTurn x byte =
     turn Ending.Normal (Takes maskBytes) (x .reads) [] (positionAfter (x .job) (x .job .task)) (ordersOf byte true (x .job .code) false 0 Selection.Nothing)
 
 unfoldable pub maskTurn : Sight → ℕ → Turn
-maskTurn x byte = pick (legal byte) (pick (x .job .orders .«mask_set») (failTurn x Row.SecondMask) (maskedTurn x byte)) (failTurn x Row.BadMask)
+maskTurn x byte = pick (isMask byte) (pick (x .job .orders .«mask_set») (failTurn x Row.SecondMask) (maskedTurn x byte)) (failTurn x Row.BadMask)
 
 -- ---- 0F Space Record: after home address work 7, else past the next marker without reading
 
@@ -349,8 +349,8 @@ satisfies How.IfEqualOrHigh Compared.Equal = true
 satisfies How.IfEqualOrHigh Compared.High = true
 
 -- a field of no bytes (KL = 0) satisfies nothing
-unfoldable pub found : How → Compared → ℕ → Bool
-found h x n = both (ltb 0 n) (satisfies h x)
+unfoldable pub satisfiesField : How → Compared → ℕ → Bool
+satisfiesField h x n = both (ltb 0 n) (satisfies h x)
 
 unfoldable pub equalOnly : How → Bool
 equalOnly How.IfEqual = true
@@ -358,7 +358,7 @@ equalOnly How.IfHigh = false
 equalOnly How.IfEqualOrHigh = false
 
 unfoldable pub satisfied : How → List ℕ → List ℕ → Bool
-satisfied h f v = found h (comparison f v) (length f)
+satisfied h f v = satisfiesField h (comparison f v) (length f)
 
 -- equal over the whole field, by an equal-only search: what licenses a write
 unfoldable pub wholly : How → List ℕ → List ℕ → Bool

@@ -10,7 +10,7 @@ use lib.Seq.{take-length, getD-drop}
 use Rattle.cells.specs.Cells.{pick, overlay, marks}
 use Rattle.cells.proofs.Laws.{take-min, put-more}
 use Rattle.rows.specs.declared.{Row.Row}
-use Rattle.mask.specs.Mask.{legal}
+use Rattle.mask.specs.Mask.{isMask}
 use Rattle.hunt.specs.Hunt.{spaceRecord}
 use Rattle.held.specs.declared.Selection.the-variants.{Nothing}
 use Rattle.held.specs.declared.{Position.Position}
@@ -59,7 +59,7 @@ module _ (s : Position) where
 
 -- ---- Set File Mask, by its two tests
 
-pub by-tests : (x : Sight) (byte : ℕ) (a b : Bool) → a ≡ legal byte → b ≡ x .job .orders .«mask_set»
+pub by-tests : (x : Sight) (byte : ℕ) (a b : Bool) → a ≡ isMask byte → b ≡ x .job .orders .«mask_set»
     → reportOf (pick a (pick b (failTurn x Row.SecondMask) (maskedTurn x byte)) (failTurn x Row.BadMask)) ≡ reportOf (maskTurn x byte)
 unfolding maskTurn
 by-tests x byte a b p q =

@@ -153,7 +153,7 @@ fn space(j: Job, track: &[u16]) -> Report
     ending::ended_at(j, task, Ending::Normal, Transfer::None, false)
 }
 
-// What a control command tells the channel.
+// What a control command reports.
 pub fn control(g: Shape, k: Control, j: Job, sent: &[u8], track: &[u16]) -> Report
     requires { ⌜ WholeTrack (now track) ⌝ }
     ensures { λ r. ⌜ r ≡ reportOf (controlTurn g k (sight (alone (now (track .entry))) j (now (sent .entry)))) ⌝ }

@@ -1,4 +1,4 @@
--- What the code says at a command's end is what the channel is told of the model's turn.
+-- What the code says at a command's end is what is reported of the model's turn.
 use mathlib.Core.Path.{_≡_, refl}
 use mathlib.Core.Bool.{Bool}
 use mathlib.Core.List.{List}

@@ -1,4 +1,4 @@
--- What the channel is told at a command's end, of a turn without the bytes and cells of it: `command:Command.endTurnAt` and `turn:Turn.checkTurn`.
+-- What is reported at a command's end, of a turn without the bytes and cells of it: `command:Command.endTurnAt` and `turn:Turn.checkTurn`.
 use mathlib.Core.Bool.{Bool}
 use Rattle.rows.specs.declared.{Row.Row}
 use Rattle.rows.specs.Rows.{senseOf, rowTakes}

@@ -1,2 +1,2 @@
--- What the channel is told at a command's end.
+-- What is reported at a command's end.
 pub mod Ending

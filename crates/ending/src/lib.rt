@@ -1,4 +1,4 @@
-// What the channel is told at a command's end.
+// What is reported at a command's end.
 use command::Job;
 use command::Task;
 use held::Orders;

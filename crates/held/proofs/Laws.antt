@@ -21,8 +21,8 @@ module _ (v : List ℕ) (i : ℕ) where
   unfolding allZero
   seen h = rw (add-one, drop-cons v i 0 h)
 
-  pub r0-seen : i < length v → getD v i 0 ≡ 0 → allZero (drop i v) ≡ allZero (drop (i + 1) v)
-  r0-seen h e = seen h ∙ ap (λ (b : Bool). both b (allZero (drop (i + 1) v))) (eq-eqb (getD v i 0) 0 e)
+  pub zero-seen : i < length v → getD v i 0 ≡ 0 → allZero (drop i v) ≡ allZero (drop (i + 1) v)
+  zero-seen h e = seen h ∙ ap (λ (b : Bool). both b (allZero (drop (i + 1) v))) (eq-eqb (getD v i 0) 0 e)
 
   pub other-seen : i < length v → (getD v i 0 ≡ 0 → ⊥) → allZero (drop i v) ≡ false
   other-seen h e = seen h ∙ ap (λ (b : Bool). both b (allZero (drop (i + 1) v))) (ne-eqb (getD v i 0) 0 e)

@@ -5,6 +5,7 @@ use mathlib.Core.List.{List, [], _∷_, _++_}
 use lib.ListN.{length, getD, drop, replicate}
 use lib.Dec.{ltb, eqb}
 use Rattle.cells.specs.Cells.{pick, both, be16, be24}
+use Rattle.rows.specs.declared.{Sense.Sense}
 use Rattle.rows.specs.Rows.{sense}
 use Rattle.hunt.specs.declared.{Spot.Spot}
 use Rattle.pack.specs.Pack.{cylinder, head}
@@ -13,9 +14,13 @@ use Rattle.pack.specs.Pack.{cylinder, head}
 -- Kept, what lent bytes say: Holds held, or Wrong.
 use Rattle.held.specs.declared.{Selection.Selection, Position.Position, Orders.Orders, Channel.Channel, Held.Held, Kept.Kept}
 
+-- sense all zero
+abbrev pub noSense : Sense
+noSense = record { byte0 = 0; byte1 = 0 }
+
 -- a fresh box stands at cylinder 0, head 0, place 0, with mask 0, sense all zero and no chain going
 unfoldable pub freshPosition : Position
-freshPosition = record { cylinder = cylinder 0; head = head 0; place = 0; sense = sense 0 0 }
+freshPosition = record { cylinder = cylinder 0; head = head 0; place = 0; sense = noSense }
 
 -- each chain starts with mask 0, none set yet, no selection, no command before and index tally 0
 unfoldable pub freshOrders : Orders

@@ -8,8 +8,7 @@ use Rattle.cells.specs.Cells.{pick}
 use Rattle.pack.specs.declared.{Shape.Shape}
 use Rattle.pack.specs.Pack.{packFits}
 use Rattle.channel.specs.Channel.{World}
-use Rattle.chain.specs.Step.{run}
-use Rattle.chain.specs.Legal.{storageFits}
+use Rattle.chain.specs.Step.{run, storageFits}
 use Rattle.chain.proofs.Runs.{run-split, run-idle, run-legal, run-sizes}
 use Rattle.host.specs.declared.Answer.the-variants.{ChainEnded, AllowanceUsed, NoChain}
 use Rattle.host.specs.declared.{Guarded.Guarded}

@@ -12,7 +12,7 @@ use Rattle.cells.proofs.Tests.{first-of, second-of}
 use Rattle.pack.specs.declared.{Shape.Shape}
 use Rattle.pack.specs.Pack.{mostCylinders, mostHeads, from1To, packFits, WholePack}
 use Rattle.channel.specs.Channel.{World}
-use Rattle.chain.specs.Legal.{storageFits, heldFits, Legal}
+use Rattle.chain.specs.Step.{storageFits, heldFits, Legal}
 use Rattle.host.specs.declared.{Answer.Answer}
 use Rattle.host.specs.declared.Answer.the-variants.{BadStorage, BadPack, BadHeld}
 use Rattle.host.specs.declared.Guarded.the-variants.{Passes, Answers}

@@ -10,7 +10,7 @@ use lib.Dec.{leb}
 use borrow.Author.Tests.{lt-leb, le-leb}
 use Rattle.cells.specs.Cells.{pick, both, overlay, markAt, marks}
 use Rattle.cells.proofs.Marks.{getD-marks}
-use Rattle.mask.specs.Mask.{legal}
+use Rattle.mask.specs.Mask.{isMask}
 use Rattle.words.specs.declared.{Word.Word, Begun.Begun, Cause.Cause, Tested.Tested}
 use Rattle.words.specs.declared.Begun.the-variants.{Begins, Refused}
 use Rattle.words.specs.declared.Tested.the-variants.{Obey, Jump, Bad}
@@ -25,8 +25,7 @@ use Rattle.table.specs.Table.{ruleOf}
 use Rattle.held.specs.declared.{Selection.Selection, Orders.Orders, Held.Held}
 use Rattle.held.specs.declared.Selection.the-variants.{Nothing, On}
 use Rattle.channel.specs.Channel.{World, world}
-use Rattle.chain.specs.Step.{under, trackUnder, run}
-use Rattle.chain.specs.Legal.{storageFits, positionFits, channelFits, selectionFits, ordersFit, heldFits}
+use Rattle.chain.specs.Step.{under, trackUnder, run, storageFits, positionFits, channelFits, selectionFits, ordersFit, heldFits}
 use Rattle.hunt.specs.Hunt.{spotFits}
 use Rattle.host.specs.declared.{Answer.Answer, Guarded.Guarded}
 use Rattle.host.specs.declared.Answer.the-variants.{ChainEnded, AllowanceUsed, BadStorage, BadPack, BadHeld, NoChain, ChainGoing}
@@ -54,7 +53,7 @@ pub some-selected : (m : List Bool) (o : Orders) (x : Selection) (s : Spot) (b :
 unfolding selectionFits
 some-selected m o x s b e q = q ∙ ap (selectionFits m o) (sym e)
 
-module _ (m : List Bool) (o : Orders) (b : Bool) (e : b ≡ legal (o .mask)) where
+module _ (m : List Bool) (o : Orders) (b : Bool) (e : b ≡ isMask (o .mask)) where
   pub bad-mask : b ≡ false → false ≡ ordersFit m o
   unfolding ordersFit
   bad-mask f = ap (λ (x : Bool). both x (both (leb (o .tally) 1) (selectionFits m o (o .selection)))) (sym f ∙ e)

@@ -11,9 +11,9 @@ use Rattle.pack.specs.Pack.{packFits}
 use Rattle.held.specs.declared.{Held.Held}
 use Rattle.held.specs.Held.{fresh}
 use Rattle.channel.specs.Channel.{World, world}
-use Rattle.chain.specs.Step.{run}
-use Rattle.chain.specs.Legal.{storageFits, heldFits}
--- Answer: the table's, each below with its number. Guarded, what the refusals of any call come to: Passes, or Answers answer.
+use Rattle.chain.specs.Step.{run, storageFits, heldFits}
+-- Answer: the table's, each below with its number. Guarded, what the refusals of any call come to: Passes, or Answers
+-- answer. (`Heard`, in contracts alone: answer, held.)
 use Rattle.host.specs.declared.{Answer.Answer, Guarded.Guarded}
 
 -- document 01's number of each answer

@@ -15,10 +15,10 @@ ghost use lib.ListN.{length};
 ghost use mathlib.Core.Bool.{false};
 ghost use Rattle.cells.specs.Cells.{pick, marks};
 ghost use Rattle.words.specs.Words.{begunBy, tested};
-ghost use Rattle.pack.specs.Pack.{WholePack, On};
+ghost use Rattle.pack.specs.Pack.{WholePack};
 ghost use Rattle.channel.specs.Channel.{world};
 ghost use Rattle.hunt.specs.Hunt.{spotFits};
-ghost use Rattle.chain.specs.Legal.{storageFits, positionFits, channelFits, selectionFits, ordersFit, heldFits};
+ghost use Rattle.chain.specs.Step.{leastStorage, storageFits, positionFits, channelFits, selectionFits, ordersFit, heldFits};
 ghost use Rattle.host.specs.Host.{hears, guardOf, wrongHeld, refusesStart, beginning, firstWord, begins, starts, goes, answerNo};
 
 // Refusal 2's limits, and 4's on key, next address and tally.
@@ -171,7 +171,7 @@ fn guard(g: Shape, h: Held, storage: &[u8], cells: &[u16]) -> Guarded
 
 // Answer 5.
 fn refuse(h: Held, storage: &mut [u8]) -> Heard
-    requires { ⌜ 80 ≤ length (now storage) ⌝ }
+    requires { ⌜ leastStorage ≤ length (now storage) ⌝ }
     ensures { λ r. ⌜ ((c : List ℕ) → hears (r .answer) (world (r .held) (now (storage .exit)) c) ≡ refusesStart (world h (now (storage .entry)) c)) ⌝ }
 {
     storage[STATUS_UNIT] = 0x00;
@@ -202,7 +202,7 @@ fn begun(h: Held, key: u8, next: u32) -> Held
 }
 
 fn first_word(h: Held, key: u8, next: u32, storage: &mut [u8]) -> Heard
-    requires { ⌜ 80 ≤ length (now storage) ⌝ }
+    requires { ⌜ leastStorage ≤ length (now storage) ⌝ }
     ensures { λ r. ⌜ ((c : List ℕ) → hears (r .answer) (world (r .held) (now (storage .exit)) c)
         ≡ firstWord (world h (now (storage .entry)) c) key next (tested (now (storage .entry)) next false)) ⌝ }
 {
@@ -217,7 +217,7 @@ fn first_word(h: Held, key: u8, next: u32, storage: &mut [u8]) -> Heard
 }
 
 fn begin(h: Held, storage: &mut [u8]) -> Heard
-    requires { ⌜ 80 ≤ length (now storage) ⌝ }
+    requires { ⌜ leastStorage ≤ length (now storage) ⌝ }
     ensures { λ r. ⌜ ((c : List ℕ) → hears (r .answer) (world (r .held) (now (storage .exit)) c)
         ≡ begins (world h (now (storage .entry)) c) (begunBy (now (storage .entry)))) ⌝ }
 {

@@ -14,7 +14,7 @@ use Rattle.cells.specs.Cells.{both, cellOf, bytesOf, cellsOf, allBytes}
 use Rattle.cells.proofs.Laws.{length-bytesOf, getD-bytesOf}
 use Rattle.cells.proofs.Marks.{both-never}
 use Rattle.cells.proofs.Numbers.{Bytes}
-use Rattle.house_check.specs.Check.{feed, byteBits, bits, check, Area, agrees, goodCells, sixteen, withCheck, cellsWithCheck, Burst, window}
+use Rattle.house_check.specs.Check.{feed, byteBits, bits, check, CheckedBytes, agrees, goodCells, sixteen, withCheck, cellsWithCheck, Burst, window}
 use Rattle.house_check.proofs.Window.{feed-lt}
 use Rattle.house_check.proofs.Bits.{bits-Bits}
 use Rattle.house_check.proofs.Remainder.{agrees-zero, zero-agrees}
@@ -54,14 +54,14 @@ pub bytes-Bytes : (t : List ℕ) → Bytes (bytesOf t)
 bytes-Bytes t i = subst (λ (x : ℕ). x < 256) (sym (getD-bytesOf t i)) (omega arith)
 
 -- n + 2 cells are an area
-pub cells-area : (n : ℕ) (t : List ℕ) → length t ≡ n + 2 → Area n (bytesOf t)
+pub cells-area : (n : ℕ) (t : List ℕ) → length t ≡ n + 2 → CheckedBytes n (bytesOf t)
 cells-area n t e = record {
   long = length-bytesOf t ∙ e;
   bytes = bytes-Bytes t;
 }
 
 -- the check of an area agrees exactly where the whole leaves 0
-agrees-leaves : (n : ℕ) (a : List ℕ) → Area n a → eqb (check a) 0 ≡ agrees n a
+agrees-leaves : (n : ℕ) (a : List ℕ) → CheckedBytes n a → eqb (check a) 0 ≡ agrees n a
 unfolding check
 agrees-leaves n a A = go (agrees n a) refl (ℕ-discrete (check a) 0)
   where

@@ -16,8 +16,8 @@ abbrev pub seekBits : ℕ → ℕ
 seekBits m = m / 8 % 4
 
 -- the other bits, 2 and 5 to 7, must be 0
-unfoldable pub legal : ℕ → Bool
-legal m = both (eqb (m / 32 % 2) 0) (eqb (m % 8) 0)
+unfoldable pub isMask : ℕ → Bool
+isMask m = both (eqb (m / 32 % 2) 0) (eqb (m % 8) 0)
 
 -- whether writing is barred with bits 0 and 1 at 00, 01, 10, 11, in that order
 unfoldable pub writesBarred : Writing → List Bool

@@ -15,7 +15,7 @@ use Rattle.cells.specs.Cells.{both, part, overlay, trackCells}
 use Rattle.cells.proofs.Tests.{second-of}
 use Rattle.cells.proofs.Laws.{length-part, overlay-before, overlay-behind}
 use Rattle.pack.specs.declared.{Cylinder.Cylinder, Head.Head, Shape.Shape}
-use Rattle.pack.specs.Pack.{mostCylinders, mostHeads, from1To, packFits, WholePack, On, trackNo, startOf, trackAt, withTrack}
+use Rattle.pack.specs.Pack.{mostCylinders, mostHeads, from1To, packFits, WholePack, OnPack, trackNo, startOf, trackAt, withTrack}
 
 -- ---- where a track lies
 
@@ -25,7 +25,7 @@ row c h C H p q =
     let m : suc c * H ≤ C * H = mul-le-mul-right H p in
     omega arith
 
-module _ (g : Shape) (c : Cylinder) (h : Head) (on : On g c h) where
+module _ (g : Shape) (c : Cylinder) (h : Head) (on : OnPack g c h) where
   -- a track's number is below the number of tracks
   pub track-below : trackNo g c h < g .cylinders * g .heads
   track-below = row (c .0) (h .0) (g .cylinders) (g .heads) (on .cylinder) (on .head)

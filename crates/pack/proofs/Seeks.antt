@@ -9,10 +9,10 @@ use Rattle.cells.proofs.Tests.{first-of, second-of}
 use Rattle.rows.specs.declared.Row.the-variants.{BadSeek}
 use Rattle.pack.specs.declared.{Cylinder.Cylinder, Head.Head, Shape.Shape, Sought.Sought}
 use Rattle.pack.specs.declared.Sought.the-variants.{To, Fails}
-use Rattle.pack.specs.Pack.{cylinderOn, headOn, seekTo, seekHead, On}
+use Rattle.pack.specs.Pack.{cylinderOn, headOn, seekTo, seekHead, OnPack}
 
 abbrev pub SoughtOn : Shape → Sought → Type 0
-SoughtOn g (To c h) = On g c h
+SoughtOn g (To c h) = OnPack g c h
 SoughtOn g (Fails row) = Unit {0}
 
 pub seek-to-on : (g : Shape) (bb : ℕ) (c : Cylinder) (h : Head) → SoughtOn g (seekTo g bb c h)

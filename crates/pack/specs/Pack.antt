@@ -55,7 +55,7 @@ pub record WholePack (g : Shape) (cells : List ℕ) : Type 0 where
   pub count : length cells ≡ g .cylinders * g .heads * trackCells
 
 -- a cylinder and a head of the pack
-pub record On (g : Shape) (c : Cylinder) (h : Head) : Type 0 where
+pub record OnPack (g : Shape) (c : Cylinder) (h : Head) : Type 0 where
   pub cylinder : c .0 < g .cylinders
   pub head : h .0 < g .heads
 

@@ -3,7 +3,7 @@ use rows::Row;
 ghost use mathlib.Core.Path.{_≡_};
 ghost use Prim.Native.Nat.{_+_, _*_, _≤_};
 ghost use Rattle.cells.specs.Cells.{trackCells};
-ghost use Rattle.pack.specs.Pack.{from1To, packFits, seekTo, seekHead, mostCylinders, mostHeads, On, startOf};
+ghost use Rattle.pack.specs.Pack.{from1To, packFits, seekTo, seekHead, mostCylinders, mostHeads, OnPack, startOf};
 
 // The most cylinders and heads of a pack.
 const MOST_CYLINDERS: u32 = 203;
@@ -77,7 +77,7 @@ pub fn seek_head(g: Shape, c: Cylinder, h: Head) -> Sought
 
 // The first cell of a track.
 pub fn start_of(g: Shape, c: Cylinder, h: Head) -> usize
-    requires { ⌜ (g .cylinders ≤ mostCylinders) × (g .heads ≤ mostHeads) × On g c h ⌝ }
+    requires { ⌜ (g .cylinders ≤ mostCylinders) × (g .heads ≤ mostHeads) × OnPack g c h ⌝ }
     ensures { λ r. ⌜ (r ≡ startOf g c h) × (r + trackCells ≤ g .cylinders * g .heads * trackCells) ⌝ }
 {
     let cylinder = c.0 as usize;

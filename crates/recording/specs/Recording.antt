@@ -6,11 +6,11 @@ use lib.ListN.{length, take, replicate}
 use Rattle.cells.specs.Cells.{overlay, padded, gap}
 use Rattle.house_check.specs.Check.{checkBytes, cellsWithCheck}
 
--- an area of n bytes recorded from a cell on, of bytes that came from storage
+-- an area of n bytes recorded from a cell on, of bytes that were sent
 unfoldable pub areaWritten : List ℕ → ℕ → List ℕ → ℕ → List ℕ
 areaWritten t first v n = overlay t first (cellsWithCheck (padded n v))
 
--- bytes of a count that come from storage: CC (2), HH (2), R, KL, DL (2)
+-- bytes of a count that are sent: CC (2), HH (2), R, KL, DL (2)
 abbrev pub countSent : ℕ
 countSent = 8
 

@@ -11,7 +11,7 @@ use Rattle.compare.specs.declared.{Compared.Compared}
 use Rattle.table.specs.declared.{How.How}
 use Rattle.turn.specs.declared.{Ending.Ending, Transfer.Transfer, Report.Report}
 use Rattle.turn.specs.declared.Ending.the-variants.{Normal, Satisfied}
-use Rattle.command.specs.Command.{found, equalOnly, Sighted, sight, comparison, satisfied, wholly, fieldTurn, searchTurn}
+use Rattle.command.specs.Command.{satisfiesField, equalOnly, Sighted, sight, comparison, satisfied, wholly, fieldTurn, searchTurn}
 use Rattle.turn.specs.Turn.{alone, transferOf, reportOf}
 use Rattle.command.specs.declared.{Job.Job}
 use Rattle.ending.specs.Ending.{reportAt}
@@ -40,13 +40,13 @@ module _ (h : How) (t : List ℕ) (j : Job) (s : Sighted (alone t) j) (n first :
     told-is = ended (sight (alone t) j v) _ _ [] _
 
     pub search-tells : (x : Compared) (w b : Bool) (e : Ending) (r : Report) → x ≡ comparison (bytesOf (part t first n)) v
-        → w ≡ both (equalOnly h) (both (leb n (length v)) (found h x n)) → b ≡ found h x n → e ≡ pick b Satisfied Normal
+        → w ≡ both (equalOnly h) (both (leb n (length v)) (satisfiesField h x n)) → b ≡ satisfiesField h x n → e ≡ pick b Satisfied Normal
         → r ≡ reportAt j (j .task) e (Transfer.Takes n) w → r ≡ reportOf (searchTurn h (sight (alone t) j v))
     unfolding satisfied wholly
     search-tells x w b e r a k l m o =
         let f = fieldIn t j in
         let long : n ≡ length f = sym (lying-long t f first n here) in
         let same : x ≡ comparison f v = a ∙ ap (λ (u : List ℕ). comparison u v) (sym (here .there)) in
-        let ending : e ≡ pick (satisfied h f v) Satisfied Normal = m ∙ ap (λ (u : Bool). pick u Satisfied Normal) (l ∙ (λ i. found h (same i) (long i))) in
-        let whole : w ≡ wholly h f v = k ∙ (λ i. both (equalOnly h) (both (leb (long i) (length v)) (found h (same i) (long i)))) in
+        let ending : e ≡ pick (satisfied h f v) Satisfied Normal = m ∙ ap (λ (u : Bool). pick u Satisfied Normal) (l ∙ (λ i. satisfiesField h (same i) (long i))) in
+        let whole : w ≡ wholly h f v = k ∙ (λ i. both (equalOnly h) (both (leb (long i) (length v)) (satisfiesField h (same i) (long i)))) in
         o ∙ (λ i. reportAt j (j .task) (ending i) (Transfer.Takes (long i)) (whole i)) ∙ sym told-is

@@ -15,7 +15,7 @@ ghost use Rattle.cells.specs.Cells.{pick, both, part, bytesOf};
 ghost use Rattle.areas.specs.Areas.{countCells};
 ghost use Rattle.turn.specs.declared.Ending.the-variants.{Normal, Satisfied};
 ghost use Rattle.turn.specs.Turn.{alone, reportOf};
-ghost use Rattle.command.specs.Command.{flagBytes, idBytes, satisfies, found, equalOnly, Sighted, sight, comparison, searchTurn};
+ghost use Rattle.command.specs.Command.{flagBytes, idBytes, satisfies, satisfiesField, equalOnly, Sighted, sight, comparison, searchTurn};
 ghost use Rattle.searches.specs.Field.{fieldFirst, fieldLength};
 
 // Cells of a flag, and of a count area with its check.
@@ -40,7 +40,7 @@ fn satisfies(h: How, x: Compared) -> bool
 
 // Whether a search over a field of n bytes is satisfied.
 fn found(h: How, x: Compared, n: u16) -> bool
-    ensures { λ r. ⌜ r ≡ found h x n ⌝ }
+    ensures { λ r. ⌜ r ≡ satisfiesField h x n ⌝ }
 {
     n != 0 && satisfies(h, x)
 }
@@ -53,7 +53,7 @@ fn equal_only(h: How) -> bool
 
 // Whether it was equal over the whole field, so many bytes being sent.
 fn wholly(h: How, x: Compared, n: u16, sent: usize) -> bool
-    ensures { λ r. ⌜ r ≡ both (equalOnly h) (both (leb n sent) (found h x n)) ⌝ }
+    ensures { λ r. ⌜ r ≡ both (equalOnly h) (both (leb n sent) (satisfiesField h x n)) ⌝ }
 {
     equal_only(h) && (n as usize <= sent && found(h, x, n))
 }

@@ -51,9 +51,9 @@ is-zero [] e = absurd (false≢true e)
 is-zero (b ∷ []) e = ap (λ (x : ℕ). x ∷ []) (eqb-true b 0 e)
 is-zero (b ∷ b′ ∷ v) e = absurd (false≢true e)
 
-r0-ok : oneZero (0 ∷ []) ≡ true
+zero-ok : oneZero (0 ∷ []) ≡ true
 unfolding oneZero
-r0-ok = refl
+zero-ok = refl
 
 -- ---- a record
 
@@ -81,7 +81,7 @@ is-record t c R =
     key (no z) = ap₂ either (ne-eqb _ _ z) (R .key z)
 
     empty : Dec (countsAt t c .dl ≡ 0) → pick (eqb (countsAt t c .dl) 0) (oneZero (areaBytes t (dataArea c (countsAt t c)))) true ≡ true
-    empty (yes z) = ap₂ (λ (b : Bool) (v : List ℕ). pick b (oneZero v) true) (eq-eqb _ _ z) (R .empty z) ∙ r0-ok
+    empty (yes z) = ap₂ (λ (b : Bool) (v : List ℕ). pick b (oneZero v) true) (eq-eqb _ _ z) (R .empty z) ∙ zero-ok
     empty (no z) = ap (λ (b : Bool). pick b (oneZero (areaBytes t (dataArea c (countsAt t c)))) true) (ne-eqb _ _ z)
 
 -- ---- the records after R0

@@ -9,7 +9,7 @@ use Rattle.house_check.specs.Check.{cellsWithCheck}
 unfoldable pub trackOf : List ℕ → List ℕ
 trackOf used = used ++ replicate (trackCells - length used) gap
 
--- areas by their bytes: a home address; a count; a marker before a count
+-- areas by their bytes: a home address; a count
 unfoldable pub homeWith : ℕ → List ℕ
 homeWith flag = cellsWithCheck (flag ∷ 0 ∷ 0 ∷ 0 ∷ 0 ∷ [])
 
@@ -41,7 +41,7 @@ fullHead = homeWith 0 ++ usualR0 0 ++ (marker ∷ countWith 0x80 1 0 0x0F 0xD6)
 unfoldable pub full : List ℕ
 full = fullHead ++ cellsWithCheck (replicate 4054 0xE5)
 
--- ---- near misses: `keyed` or `alone`, but for one thing
+-- ---- near misses: `rightTrack` or `homeAndR0`, but for one thing
 
 -- a track with one record of key and data, by the flags of R0 and of the record, and what stands between and in its areas
 unfoldable pub oneRecord : ℕ → ℕ → List ℕ → List ℕ → List ℕ → List ℕ

@@ -1,5 +1,5 @@
 -- Document 01, "Commands" and "Where the head stands": one row a command, in the order of its list. A TIC is no command (`words:Words.isTic`).
--- The columns are the fields of `Rule`, in this order: which command must come before; what of the mask bars it; which record it takes; which areas of
+-- The columns are the fields of `Rule`: which command must come before; what of the mask bars it; which record it takes; which areas of
 -- it are read; what is done then; whether the record is left selected, and whom it then serves; Unit Exception at DL = 0; whether sense is cleared first.
 use Prim.Native.Nat.{ℕ}
 use mathlib.Core.Bool.{Bool, true, false}
@@ -11,8 +11,8 @@ use Rattle.mask.specs.declared.{Seeking.Seeking, Writing.Writing}
 -- R0 or Count Key Data, or 31 or 29 equal over their field; EqualIdOrKey, 31 or 29 so; EqualId, 31 so. Bar: Nothing, Seeks seeking, Writes writing.
 -- Aim: Stays; HomeAddress or R0, at the index point; NextId, by Search ID's rule; Next; NextForData and NextForKey, the record selected, if the command
 -- before serves Read Data, or also Read KD and searches by key, or else the next; Selected. Names, which areas are read: Nothing, HomeAddress, Count key
--- data. Act: Control control, Search how, Read counted (a count's 8 bytes move), Write write. Update key: data, with the key or not. How: what satisfies
--- a search. Serves: Nobody, Data (Read Data), DataAndKey (also Read KD and searches by key).
+-- data. Act: Control control, Search how, Read counted (a count's 8 bytes move), Write write. Control, Write: by name;
+-- Update key is data, with the key or not. How: IfEqual, IfHigh, IfEqualOrHigh. Serves: Nobody, Data (Read Data), DataAndKey (also Read KD and searches by key).
 use Rattle.table.specs.declared.{How.How, Licence.Licence, Bar.Bar, Aim.Aim, Names.Names, Serves.Serves, Control.Control, Write.Write, Act.Act, Rule.Rule}
 
 -- ---- values of the columns
@@ -98,7 +98,7 @@ controls =
     ∷ row 0x0F (controlRow Licence.Look Bar.Nothing Control.SpaceRecord)
     ∷ []
 
--- Search HA; Search ID equal, high, equal or high; Search Key so
+-- Search HA; Search ID equal, high, equal or high; Search Key so: which record, which areas, whether it is left selected, whom it serves, what satisfies
 unfoldable pub searches : List Entry
 searches =
     row 0x39 (searchRow Aim.HomeAddress Names.HomeAddress selectsNone Serves.Nobody How.IfEqual)
@@ -110,7 +110,7 @@ searches =
     ∷ row 0x69 (searchRow Aim.NextForKey countKey selects Serves.Data How.IfEqualOrHigh)
     ∷ []
 
--- Read HA, R0, Count, Data, Key and Data, Count Key Data
+-- Read HA, R0, Count, Data, Key and Data, Count Key Data: which record, which areas, a count's 8 bytes, whether selected, whom it serves, DL = 0
 unfoldable pub reads : List Entry
 reads =
     row 0x1A (readRow Aim.HomeAddress Names.HomeAddress uncounted selectsNone Serves.Nobody accepts)
@@ -121,7 +121,7 @@ reads =
     ∷ row 0x1E (readRow Aim.Next countKeyData counted selectsNone Serves.Nobody excepts)
     ∷ []
 
--- Write HA, R0, Count Key Data, Data, Key and Data
+-- Write HA, R0, Count Key Data, Data, Key and Data: the command before, the mask, which record, which areas, what is written, whether selected, DL = 0
 unfoldable pub writes : List Entry
 writes =
     row 0x19 (writeRow Licence.Any Writing.HomeOrR0 Aim.HomeAddress Names.Nothing Write.HomeAddress selectsNone accepts)

@@ -100,14 +100,14 @@ pub struct Rule {
 // The record is left selected, or is not; DL = 0 is Unit Exception, or may be.
 const SELECTS: bool = true;
 
-const LEAVES: bool = false;
+const SELECTS_NONE: bool = false;
 
 const EXCEPTS: bool = true;
 
 const ACCEPTS: bool = false;
 
 // Control: sense is cleared first, or is not.
-fn control_row(l: Licence, b: Bar, a: Control, clears: bool) -> Rule
+fn plain_row(l: Licence, b: Bar, a: Control, clears: bool) -> Rule
     ensures { λ r. ⌜ r ≡ plainRow l b a clears ⌝ }
 {
     Rule {
@@ -116,7 +116,7 @@ fn control_row(l: Licence, b: Bar, a: Control, clears: bool) -> Rule
         aim: Aim::Stays,
         names: Names::Nothing,
         act: Act::Control(a),
-        selects: LEAVES,
+        selects: SELECTS_NONE,
         serves: Serves::Nobody,
         excepts: ACCEPTS,
         clears,
@@ -126,7 +126,7 @@ fn control_row(l: Licence, b: Bar, a: Control, clears: bool) -> Rule
 fn seek_row(k: Seeking) -> Rule
     ensures { λ r. ⌜ r ≡ seekRow k ⌝ }
 {
-    control_row(Licence::Any, Bar::Seeks(k), Control::Seek(k), true)
+    plain_row(Licence::Any, Bar::Seeks(k), Control::Seek(k), true)
 }
 
 // A search or a read that leaves its record selected: its count is read, with the key or not.
@@ -147,7 +147,7 @@ fn selecting_row(a: Aim, key: bool, act: Act, v: Serves) -> Rule
 }
 
 // A search or a read that does not.
-fn leaving_row(a: Aim, n: Names, act: Act, x: bool) -> Rule
+fn unselecting_row(a: Aim, n: Names, act: Act, x: bool) -> Rule
     ensures { λ r. ⌜ r ≡ lookRow a n act selectsNone Serves.Nobody x ⌝ }
 {
     Rule {
@@ -156,7 +156,7 @@ fn leaving_row(a: Aim, n: Names, act: Act, x: bool) -> Rule
         aim: a,
         names: n,
         act,
-        selects: LEAVES,
+        selects: SELECTS_NONE,
         serves: Serves::Nobody,
         excepts: x,
         clears: true,
@@ -189,7 +189,7 @@ fn update_row(l: Licence, key: bool) -> Rule
         Aim::Selected,
         Names::Count(false, false),
         Write::Update(key),
-        LEAVES,
+        SELECTS_NONE,
         EXCEPTS,
     )
 }
@@ -204,7 +204,7 @@ fn write_of(code: u8) -> Rule
             Aim::HomeAddress,
             Names::Nothing,
             Write::HomeAddress,
-            LEAVES,
+            SELECTS_NONE,
             ACCEPTS,
         ),
         0x15 => write_row(
@@ -227,7 +227,7 @@ fn write_of(code: u8) -> Rule
         ),
         0x05 => update_row(Licence::EqualIdOrKey, false),
         0x0D => update_row(Licence::EqualId, true),
-        _ => control_row(Licence::Any, Bar::Nothing, Control::Unknown, true),
+        _ => plain_row(Licence::Any, Bar::Nothing, Control::Unknown, true),
     }
 }
 
@@ -235,14 +235,14 @@ fn write_of(code: u8) -> Rule
 fn home_row(act: Act) -> Rule
     ensures { λ r. ⌜ r ≡ lookRow Aim.HomeAddress Names.HomeAddress act selectsNone Serves.Nobody accepts ⌝ }
 {
-    leaving_row(Aim::HomeAddress, Names::HomeAddress, act, ACCEPTS)
+    unselecting_row(Aim::HomeAddress, Names::HomeAddress, act, ACCEPTS)
 }
 
 // A read of a record's data, with the key or not; a count's 8 bytes move, or do not.
 fn data_row(a: Aim, key: bool, counted: bool) -> Rule
     ensures { λ r. ⌜ r ≡ readRow a (Names.Count key true) counted selectsNone Serves.Nobody excepts ⌝ }
 {
-    leaving_row(a, Names::Count(key, true), Act::Read(counted), EXCEPTS)
+    unselecting_row(a, Names::Count(key, true), Act::Read(counted), EXCEPTS)
 }
 
 fn read_of(code: u8) -> Rule
@@ -291,13 +291,13 @@ pub fn rule_of(code: u8) -> Rule
     ensures { λ r. ⌜ r ≡ ruleOf code ⌝ }
 {
     match code {
-        0x03 => control_row(Licence::Any, Bar::Nothing, Control::NoOp, false),
-        0x04 => control_row(Licence::Any, Bar::Nothing, Control::Sense, false),
+        0x03 => plain_row(Licence::Any, Bar::Nothing, Control::NoOp, false),
+        0x04 => plain_row(Licence::Any, Bar::Nothing, Control::Sense, false),
         0x07 => seek_row(Seeking::Seek),
         0x0B => seek_row(Seeking::SeekCylinder),
         0x1B => seek_row(Seeking::SeekHead),
-        0x1F => control_row(Licence::Any, Bar::Nothing, Control::SetMask, true),
-        0x0F => control_row(Licence::Look, Bar::Nothing, Control::SpaceRecord, true),
+        0x1F => plain_row(Licence::Any, Bar::Nothing, Control::SetMask, true),
+        0x0F => plain_row(Licence::Look, Bar::Nothing, Control::SpaceRecord, true),
         _ => search_of(code),
     }
 }

@@ -6,12 +6,13 @@ use mathlib.Core.List.{List, [], _∷_}
 use lib.ListN.{length, take, drop}
 use Rattle.cells.specs.Cells.{overlay}
 use Rattle.rows.specs.declared.{Row.Row, Sense.Sense}
-use Rattle.rows.specs.Rows.{sense, senseOf, rowTakes}
+use Rattle.rows.specs.Rows.{senseOf, rowTakes}
 use Rattle.areas.specs.declared.{Area.Area}
 use Rattle.pack.specs.declared.{Cylinder.Cylinder, Head.Head}
 use Rattle.held.specs.declared.{Position.Position, Orders.Orders, Selection.Selection}
--- Ending: Normal, Satisfied (a search), Exception (Unit Exception), Check row (Unit Check). Transfer: None, Gives or Takes so many. Report, what the
--- channel is told: ending, transfer, position, orders.
+use Rattle.held.specs.Held.{noSense}
+-- Ending: Normal, Satisfied (a search), Exception (Unit Exception), Check row (Unit Check). Transfer: None, Gives or Takes so many. Report, a
+-- turn without bytes and cells: ending, transfer, position, orders.
 use Rattle.turn.specs.declared.{Ending.Ending, Transfer.Transfer, Report.Report}
 
 -- all that a command sees of the pack: the tracks of the cylinder, by their heads
@@ -75,7 +76,7 @@ pub record Turn : Type 0 where
 abbrev pub turn : Ending → Moves → List TrackArea → List Piece → Position → Orders → Turn
 turn e m r l s o = record { ending = e; moves = m; reads = r; lays = l; position = s; orders = o }
 
--- what the channel is told of it
+-- what is reported of it
 unfoldable pub reportOf : Turn → Report
 reportOf t = record { ending = t .ending; transfer = transferOf (t .moves); position = t .position; orders = t .orders }
 
@@ -95,7 +96,7 @@ withSense s x = positionAt (s .cylinder) (s .head) (s .place) x
 
 -- a seek sets place 0, and clears sense
 unfoldable pub positionSought : Cylinder → Head → Position
-positionSought c h = positionAt c h 0 (sense 0 0)
+positionSought c h = positionAt c h 0 noSense
 
 unfoldable pub ordersOf : ℕ → Bool → ℕ → Bool → ℕ → Selection → Orders
 ordersOf mask set before whole tally selection = record {

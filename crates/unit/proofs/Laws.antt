@@ -20,8 +20,8 @@ use Rattle.turn.specs.Turn.{Tracks, Piece, alone, given, filled, reportOf, lay,
 use Rattle.command.specs.declared.Plan.the-variants.{Refuses, Works}
 use Rattle.command.specs.Command.{marksOf, planOf, gets, Sight, sight, endTurn, endTurnAt, senseBytes, senseTurn, controlTurn, writeTurn, actTurn, jobOf, hasRead, readyBy, readyOf}
 use Rattle.unit.specs.Unit.{Accepts}
-use Rattle.claim_frame.specs.Frame.{givesBytes}
-use Rattle.claim_frame.proofs.Acts.{acts-keeps}
+use Rattle.command.specs.Frame.{givesBytes}
+use Rattle.command.proofs.Acts.{acts-keeps}
 
 -- ---- before it acts
 

@@ -51,7 +51,7 @@ pub fn ready(code: u8, track: &[u16], s: Position, o: Orders) -> Ready
     }
 }
 
-// What a job tells the channel.
+// What a job reports.
 pub fn ask(g: Shape, j: Job, sent: &[u8], track: &[u16]) -> Report
     requires { ⌜ WholeTrack (now track) × Sighted (alone (now track)) j ⌝ }
     ensures { λ r. ⌜ r ≡ reportOf (jobTurn g (now (track .entry)) j (now (sent .entry))) ⌝ }

@@ -82,7 +82,7 @@ unfoldable pub tested : List ℕ → ℕ → Bool → Tested
 tested s at afterTic = pick (inPlace s at) (testedWord s afterTic (wordAt s at)) (Tested.Bad Cause.Place)
 
 -- the word's area lies in storage, as its tests made sure
-pub record Reaches (s : List ℕ) (w : Word) : Type 0 where
+pub record AreaFits (s : List ℕ) (w : Word) : Type 0 where
   pub area : w .address + w .count ≤ length s
 
 -- stored at 64: key and zeros, address, unit status, channel status, count left
@@ -103,7 +103,7 @@ statusBytes x =
 
 -- what a status word needs to be stored: storage that reaches so far, a key of four bits, an address of 24
 pub record Storable (s : List ℕ) (x : Status) : Type 0 where
-  pub reaches : statusAt + 8 ≤ length s
+  pub reaches : statusAt + wordBytes ≤ length s
   pub key : x .key < 16
   pub address : x .address < addresses
 

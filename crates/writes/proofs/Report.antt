@@ -1,4 +1,4 @@
--- What the channel is told of a write: the code's branches are the model's choices, and the cells that are laid do not show in it.
+-- What is reported of a write: the code's branches are the model's choices, and the cells that are laid do not show in it.
 use Prim.Native.Nat.{ℕ, _+_, _%_, _≤_}
 use mathlib.Core.Path.{_≡_, refl, sym, ap, ap₂, _∙_}
 use mathlib.Core.Bool.{Bool, true, false}

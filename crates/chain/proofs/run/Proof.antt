@@ -5,8 +5,7 @@ use native.Mathlib.Omega.{arith}
 use lib.ListN.{length}
 use borrow.Author.Tests.{not-true, not-false}
 use Rattle.channel.specs.Channel.{world}
-use Rattle.chain.specs.Step.{run}
-use Rattle.chain.specs.Legal.{Legal}
+use Rattle.chain.specs.Step.{run, Legal}
 use Rattle.chain.proofs.Runs.{run-idle, run-none}
 use borrow.Author.Needs.{needs}
 use Rattle.chain.proofs.run.Statement.{statement}

@@ -2,7 +2,8 @@
 use mathlib.Core.Path.{refl}
 use Rattle.chain.specs.Step.{stepBy}
 use Rattle.chain.proofs.Fits.{key-in, channeled}
-use Rattle.chain.proofs.Laws.{taken, word-reaches, world-eq}
+use native.Mathlib.Omega.{arith}
+use Rattle.chain.proofs.Laws.{taken, stopped, word-reaches, world-eq}
 use borrow.Author.Needs.{needs}
 use Rattle.chain.proofs.step.Statement.{statement}
 use Rattle.chain.proofs.step.Tie as tie
@@ -30,7 +31,7 @@ enum-known-cause c = search needs
 stop-requires : tie.Need-stop-requires
 stop-requires c κs =
     let p = c .before .before .before .before .before .before .before .before .pre in
-    (p .room, key-in _ (channeled _ _ p))
+    (omega (arith, p .room), key-in _ (channeled _ _ p))
 
 same-length : tie.Need-same-length
 same-length c = search needs
@@ -62,7 +63,7 @@ unfolding stepBy
 returns-3 c =
     let b = c .before .before in
     let k = b .before .before .before in
-    taken _ _ _ _ _ (k .before .before .test .ensures) (k .cause .given .1) (b .stop .ensures _)
+    taken _ _ _ _ _ (k .before .before .test .ensures) (k .cause .given .1) (stopped _ _ _ _ _ _ (b .stop .ensures .0) (b .stop .ensures .1))
 
 pub step-spec : {M : Type 1} → statement M
 step-spec =

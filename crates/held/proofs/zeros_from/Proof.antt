@@ -3,7 +3,7 @@ use Prim.Native.Nat.{_-_}
 use mathlib.Core.Path.{_≡_, refl, sym, _∙_}
 use lib.ListN.{length, drop}
 use Rattle.held.specs.Held.{allZero}
-use Rattle.held.proofs.Laws.{r0-seen, other-seen, all-seen}
+use Rattle.held.proofs.Laws.{zero-seen, other-seen, all-seen}
 use borrow.Author.Needs.{needs}
 use Rattle.held.proofs.zeros_from.Statement.{statement}
 use Rattle.held.proofs.zeros_from.Tie as tie
@@ -34,7 +34,7 @@ loop-less c = search needs
 loop-again : tie.Need-loop-again Inv-loop μ-loop
 loop-again c =
     let i = c .before .before in
-    i .before .loop .inv ∙ r0-seen _ _ (i .loop-test .taken) (c .if1 .left)
+    i .before .loop .inv ∙ zero-seen _ _ (i .loop-test .taken) (c .if1 .left)
 
 returns-2 : tie.Need-returns-2 Inv-loop μ-loop
 returns-2 c = sym (c .before .loop .inv ∙ all-seen _ _ (c .loop-test .left))

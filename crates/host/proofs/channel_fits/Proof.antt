@@ -1,6 +1,6 @@
 -- `host::channel_fits` meets its contract: it makes the model's tests.
 use Rattle.cells.proofs.Tests.{tests}
-use Rattle.chain.specs.Legal.{channelFits}
+use Rattle.chain.specs.Step.{channelFits}
 use Rattle.host.proofs.channel_fits.Statement.{statement}
 use Rattle.host.proofs.channel_fits.Tie as tie
 

@@ -1,6 +1,6 @@
 -- `host::stands_fit` meets its contract: it makes the model's tests.
 use Rattle.cells.proofs.Tests.{tests}
-use Rattle.chain.specs.Legal.{positionFits}
+use Rattle.chain.specs.Step.{positionFits}
 use borrow.Author.Needs.{needs}
 use Rattle.host.proofs.position_fits.Statement.{statement}
 use Rattle.host.proofs.position_fits.Tie as tie

@@ -1,6 +1,6 @@
 -- `host::storage_fits` meets its contract: it makes the model's tests.
 use Rattle.cells.proofs.Tests.{tests}
-use Rattle.chain.specs.Legal.{storageFits}
+use Rattle.chain.specs.Step.{storageFits}
 use Rattle.host.proofs.storage_fits.Statement.{statement}
 use Rattle.host.proofs.storage_fits.Tie as tie
 

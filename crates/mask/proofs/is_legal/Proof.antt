@@ -1,15 +1,15 @@
 -- A byte with bit 2 is no mask; one without is a mask where bits 5 to 7 are 0 as well.
 use borrow.Author.Tests.{eq-eqb, ne-eqb}
-use Rattle.mask.specs.Mask.{legal}
+use Rattle.mask.specs.Mask.{isMask}
 use Rattle.mask.proofs.is_legal.Statement.{statement}
 use Rattle.mask.proofs.is_legal.Tie as tie
 
 returns : tie.Need-returns
-unfolding legal
+unfolding isMask
 returns c = rw (eq-eqb _ _ (c .if1 .taken))
 
 returns-2 : tie.Need-returns-2
-unfolding legal
+unfolding isMask
 returns-2 c = rw (ne-eqb _ _ (c .if1 .left))
 
 pub is-legal-spec : {M : Type 1} → statement M

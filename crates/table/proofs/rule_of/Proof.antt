@@ -7,11 +7,11 @@ use Rattle.table.proofs.rule_of.Tie as tie
 
 returns : tie.Need-returns
 unfolding ruleOf find controls
-returns c = rw (c .before .match .keys1) (c .control-row .ensures)
+returns c = rw (c .before .match .keys1) (c .plain-row .ensures)
 
 returns-2 : tie.Need-returns-2
 unfolding ruleOf find controls
-returns-2 c = rw (c .before .match .keys2) (c .control-row2 .ensures)
+returns-2 c = rw (c .before .match .keys2) (c .plain-row2 .ensures)
 
 returns-3 : tie.Need-returns-3
 unfolding ruleOf find controls
@@ -27,11 +27,11 @@ returns-5 c = rw (c .before .match .keys5) (c .seek-row3 .ensures)
 
 returns-6 : tie.Need-returns-6
 unfolding ruleOf find controls
-returns-6 c = rw (c .before .match .keys6) (c .control-row3 .ensures)
+returns-6 c = rw (c .before .match .keys6) (c .plain-row3 .ensures)
 
 returns-7 : tie.Need-returns-7
 unfolding ruleOf find controls
-returns-7 c = rw (c .before .match .keys7) (c .control-row4 .ensures)
+returns-7 c = rw (c .before .match .keys7) (c .plain-row4 .ensures)
 
 returns-8 : tie.Need-returns-8
 unfolding ruleOf find controls

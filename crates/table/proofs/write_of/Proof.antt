@@ -27,7 +27,7 @@ returns-5 c = rw (c .before .match .keys5) (c .update-row2 .ensures)
 
 returns-6 : tie.Need-returns-6
 unfolding find writes
-returns-6 c = rw (c .control-row .ensures) (search tests)
+returns-6 c = rw (c .plain-row .ensures) (search tests)
 
 pub write-of-spec : {M : Type 1} → statement M
 write-of-spec =

@@ -2,7 +2,7 @@
 use mathlib.Core.Path.{refl}
 use Rattle.table.specs.declared.{Act.Act}
 use Rattle.command.specs.Command.{actTurn}
-use Rattle.claim_frame.specs.Frame.{givesBytes}
+use Rattle.command.specs.Frame.{givesBytes}
 use Rattle.unit.proofs.Laws.{given-by, none-given}
 use borrow.Author.Needs.{needs}
 use Rattle.unit.proofs.give.Statement.{statement}

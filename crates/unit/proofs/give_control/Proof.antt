@@ -8,7 +8,7 @@ use denote.Enum.Declared.{tagOf}
 use Rattle.table.specs.declared.{Control.Control, Act.Act}
 use Rattle.table.proofs.Control.{the-type}
 use Rattle.command.specs.Command.{sight, actTurn}
-use Rattle.claim_frame.specs.Frame.{givesBytes}
+use Rattle.command.specs.Frame.{givesBytes}
 use Rattle.unit.proofs.Laws.{sense-given, none-given}
 use borrow.Author.Needs.{needs}
 use Rattle.unit.proofs.give_control.Statement.{statement}

@@ -10,16 +10,16 @@ use Rattle.areas.specs.declared.{Part.Part, CountRead.CountRead}
 use Rattle.areas.specs.Areas.{readable, rowOf, homeArea, countArea, readCount}
 use Rattle.pack.specs.declared.{Head.Head, Shape.Shape}
 use Rattle.held.specs.declared.{Position.Position, Orders.Orders}
 use Rattle.command.specs.declared.{Got.Got, Plan.Plan}
 use Rattle.command.specs.declared.Got.the-variants.{Fails}
 use Rattle.command.specs.Command.{namedBy, marksOf, planOf, onHead, areasOf, allRead, gets, hasRead, readyBy, planReads, readyTurn, ruleTurn, command}
 use Rattle.table.specs.declared.{Names.Names, Rule.Rule}
 use Rattle.table.specs.Table.{ruleOf}
 use Rattle.turn.specs.Turn.{Tracks, TrackArea, checkTurn}
 use Rattle.command.specs.declared.Plan.the-variants.{Refuses, Works}
-use Rattle.claim_frame.specs.Frame.{Same, Breaks}
-use Rattle.claim_frame.proofs.Turns.{planTurn, command-reads}
-use Rattle.claim_frame.proofs.Kept.{read-kept, count-kept}
+use Rattle.command.specs.Frame.{Same, Breaks}
+use Rattle.command.proofs.Turns.{planTurn, command-reads}
+use Rattle.command.proofs.Kept.{read-kept, count-kept}
 
 module _ (t t′ : Tracks) (p : Part) where
   -- this area is the one, or a later one is

@@ -1,5 +1,5 @@
 -- What every command keeps to when it acts: it reads no further area; the cells that it lays are under its task's head; a Unit Check lays none, nor does
--- any command but a write; only the reads and Sense give bytes. Why: each ends in a Unit Check, or in one turn that is written down.
+-- any command but a write, nor a turn that takes no bytes; only the reads and Sense give bytes. Why: each ends in a Unit Check, or in one turn that is written down.
 use Prim.Native.Nat.{ℕ}
 use mathlib.Core.Path.{_≡_, refl, sym, _∙_}
 use mathlib.Core.Bool.{Bool, true, false, true≢false, false≢true}
@@ -10,7 +10,7 @@ use Rattle.table.specs.Table.{isWrite}
 use Rattle.cells.specs.Cells.{both}
 use Rattle.cells.proofs.Tests.{pick-all}
 use Rattle.rows.specs.declared.{Row.Row}
-use Rattle.mask.specs.Mask.{legal}
+use Rattle.mask.specs.Mask.{isMask}
 use Rattle.areas.specs.declared.{Area.Area, Counts.Counts}
 use Rattle.areas.specs.Areas.{keyArea}
 use Rattle.room.specs.Room.{fits}
@@ -18,16 +18,31 @@ use Rattle.pack.specs.declared.{Head.Head, Shape.Shape, Sought.Sought}
 use Rattle.held.specs.declared.{Position.Position, Orders.Orders}
 use Rattle.turn.specs.declared.{Ending.Ending}
 use Rattle.table.specs.declared.{Control.Control, Write.Write, Act.Act}
-use Rattle.turn.specs.Turn.{TrackArea, Piece, Moves, Takes, given, Turn, turn, isCheck, checkTurn}
+use Rattle.turn.specs.Turn.{TrackArea, Piece, Moves, None, Gives, Takes, given, Turn, turn, isCheck, checkTurn}
 use Rattle.command.specs.declared.{Task.Task, Job.Job}
 use Rattle.command.specs.Command.{Sight, failTurn, endTurnAt, endTurn, endingOf, noOpTurn, senseTurn, addressed, arrivalTurn, seekTurn, maskedTurn, maskTurn, spaceTurn, fieldTurn, searchTurn, readTurn, homeTurn, newTurn, r0Turn, recordTurn, piece, overPiece, keySent, updateTurn, controlTurn, writeTurn, actTurn}
-use Rattle.claim_frame.specs.Frame.{LaysUnder, givesBytes}
+use Rattle.command.specs.Frame.{LaysUnder, givesBytes}
+
+-- only a turn that takes bytes lays cells, and only one that ends without Unit Check
+abbrev pub LaysBy : Moves → List Piece → Type 0
+LaysBy None l = l ≡ []
+LaysBy (Gives v) l = l ≡ []
+LaysBy (Takes n) l = Unit {0}
+
+pub record Lays (y : Turn) : Type 0 where
+  pub moves : LaysBy (y .moves) (y .lays)
+  pub checked : isCheck (y .ending) ≡ true → y .lays ≡ []
+
+lays-none : (m : Moves) → LaysBy m []
+lays-none None = refl
+lays-none (Gives v) = refl
+lays-none (Takes n) = tt
 
 -- a turn that an act, having read these areas, may come to under a head
 pub record Keeps (a : Act) (r : List TrackArea) (h : Head) (y : Turn) : Type 0 where
   pub reads : y .reads ≡ r
   pub under : LaysUnder h (y .lays)
-  pub checked : isCheck (y .ending) ≡ true → y .lays ≡ []
+  pub lays : Lays y
   pub still : isWrite a ≡ false → y .lays ≡ []
   pub quiet : givesBytes a ≡ false → given (y .moves) ≡ []
 
@@ -36,18 +51,18 @@ pub record Keeps (a : Act) (r : List TrackArea) (h : Head) (y : Turn) : Type 0 w
 -- a Unit Check
 pub check-keeps : (a : Act) (r : List TrackArea) (h : Head) (s : Position) (o : Orders) (row : Row) → Keeps a r h (checkTurn s o r row)
 unfolding checkTurn given
-check-keeps a r h s o row = record { reads = refl; under = tt; checked = λ e. refl; still = λ e. refl; quiet = λ e. refl }
+check-keeps a r h s o row = record { reads = refl; under = tt; lays = record { moves = tt; checked = λ e. refl }; still = λ e. refl; quiet = λ e. refl }
 
 -- no cell, no byte given
 pub empty-keeps : (a : Act) (r : List TrackArea) (h : Head) (e : Ending) (m : Moves) (s : Position) (o : Orders) → given m ≡ [] → Keeps a r h (turn e m r [] s o)
-empty-keeps a r h e m s o f = record { reads = refl; under = tt; checked = λ e. refl; still = λ e. refl; quiet = λ e. f }
+empty-keeps a r h e m s o f = record { reads = refl; under = tt; lays = record { moves = lays-none m; checked = λ e. refl }; still = λ e. refl; quiet = λ e. f }
 
 -- bytes given, no cell
 gives-keeps : (a : Act) (r : List TrackArea) (h : Head) (e : Ending) (m : Moves) (s : Position) (o : Orders) → givesBytes a ≡ true → Keeps a r h (turn e m r [] s o)
 gives-keeps a r h e m s o f = record {
   reads = refl;
   under = tt;
-  checked = λ e. refl;
+  lays = record { moves = lays-none m; checked = λ e. refl };
   still = λ e. refl;
   quiet = λ e. absurd (true≢false (sym f ∙ e));
 }
@@ -59,7 +74,7 @@ unfolding isWrite given
 lays-keeps w r h e n l s o c u = record {
   reads = refl;
   under = u;
-  checked = λ f. absurd (false≢true (sym c ∙ f));
+  lays = record { moves = tt; checked = λ f. absurd (false≢true (sym c ∙ f)) };
   still = λ f. absurd (true≢false f);
   quiet = λ f. refl;
 }
@@ -82,7 +97,7 @@ module _ (x : Sight) where
   masks-keeps : (a : Act) (byte : ℕ) → At a (maskTurn x byte)
   unfolding maskTurn maskedTurn given
   masks-keeps a byte =
-      pick-all (At a) (legal byte)
+      pick-all (At a) (isMask byte)
       (pick-all (At a) (x .job .orders .«mask_set») (fails-keeps a Row.SecondMask) (empty-keeps a _ _ _ _ _ _ refl))
       (fails-keeps a Row.BadMask)
 

@@ -1,12 +1,11 @@
--- `chain::stop` meets its contract: the program check's status word, and a chain at its end.
-use mathlib.Core.Path.{sym, subst}
+-- `channel::stop` meets its contract: the program check's status word, and a chain at its end.
+use mathlib.Core.Path.{sym, subst, ap, _∙_}
 use native.Mathlib.Omega.{arith}
-use Rattle.words.specs.Words.{Storable}
+use Rattle.words.specs.Words.{Storable, stored}
 use Rattle.words.proofs.Obeys.{check-storable}
-use Rattle.chain.proofs.Laws.{stopped}
 use borrow.Author.Needs.{needs}
-use Rattle.chain.proofs.stop.Statement.{statement}
-use Rattle.chain.proofs.stop.Tie as tie
+use Rattle.channel.proofs.stop.Statement.{statement}
+use Rattle.channel.proofs.stop.Tie as tie
 
 program-check-requires : tie.Need-program-check-requires
 program-check-requires c κs = search needs
@@ -23,7 +22,7 @@ same-length : tie.Need-same-length
 same-length c = search needs
 
 returns : tie.Need-returns
-returns c = λ x. stopped _ _ _ _ _ _ _ (c .rested .ensures) (c .before .before .before .before .before .program-check .ensures) (c .before .before .before .store-status .ensures)
+returns c = (c .rested .ensures, c .before .before .before .store-status .ensures ∙ ap (stored _) (c .before .before .before .before .before .program-check .ensures))
 
 pub stop-spec : {M : Type 1} → statement M
 stop-spec =

@@ -1,8 +1,8 @@
--- `chain::jump` meets its contract, by the sum modulo 2 to the 24.
-use Rattle.chain.specs.Step.{jumped}
+-- `channel::jump` meets its contract, by the sum modulo 2 to the 24.
+use Rattle.channel.specs.Channel.{jumped}
 use borrow.Author.Needs.{needs}
-use Rattle.chain.proofs.jump.Statement.{statement}
-use Rattle.chain.proofs.jump.Tie as tie
+use Rattle.channel.proofs.jump.Statement.{statement}
+use Rattle.channel.proofs.jump.Tie as tie
 
 advanced-requires : tie.Need-advanced-requires
 advanced-requires c κs = search needs

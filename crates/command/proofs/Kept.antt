@@ -12,15 +12,15 @@ use Rattle.areas.specs.declared.{Area.Area, Counts.Counts, CountRead.CountRead}
 use Rattle.areas.specs.Areas.{readable, areaBytes, rowOf, countArea, countsOf, countsAt, readCount}
 use Rattle.pack.specs.declared.{Head.Head, Shape.Shape}
 use Rattle.held.specs.declared.{Position.Position, Orders.Orders}
 use Rattle.command.specs.declared.{Got.Got, Task.Task, Plan.Plan, Job.Job}
 use Rattle.command.specs.declared.Got.the-variants.{Sees, Fails}
 use Rattle.command.specs.Command.{namedBy, seenWith, marksOf, planOf, onHead, areasOf, allRead, countsIn, gets, seenOf, goesOver, allRecorded, areasRead, sight, actTurn, jobOf, hasRead, readyBy, planReads, readyTurn, ruleTurn, command}
 use Rattle.format.specs.Format.{recorded}
 use Rattle.table.specs.declared.{Names.Names, Act.Act, Rule.Rule}
 use Rattle.turn.specs.Turn.{Tracks, TrackArea, checkTurn}
 use Rattle.command.specs.declared.Plan.the-variants.{Refuses, Works}
-use Rattle.claim_frame.specs.Frame.{Same, AllSame, planHead}
-use Rattle.claim_frame.proofs.Turns.{planTurn, command-reads}
+use Rattle.command.specs.Frame.{Same, AllSame, planHead}
+use Rattle.command.proofs.Turns.{planTurn, command-reads}
 
 module _ (t t′ : Tracks) where
   -- what else an act sees of the track under a head: the markers, and whether the areas that it goes over are byte cells

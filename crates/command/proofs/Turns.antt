@@ -7,14 +7,14 @@ use mathlib.Core.List.{List, []}
 use Rattle.table.specs.Table.{isWrite, ruleOf}
 use Rattle.pack.specs.declared.{Shape.Shape}
 use Rattle.held.specs.declared.{Position.Position, Orders.Orders}
 use Rattle.command.specs.declared.{Got.Got, Task.Task, Plan.Plan}
 use Rattle.command.specs.declared.Got.the-variants.{Sees, Fails}
 use Rattle.table.specs.declared.{Rule.Rule}
 use Rattle.turn.specs.Turn.{Tracks, Turn, given, isCheck}
 use Rattle.command.specs.declared.Plan.the-variants.{Refuses, Works}
 use Rattle.command.specs.Command.{marksOf, planOf, areasOf, areasRead, sight, jobOf, hasRead, readyBy, planReads, readyTurn, ruleTurn, command}
-use Rattle.claim_frame.specs.Frame.{planHead, LaysUnder, givesBytes}
-use Rattle.claim_frame.proofs.Acts.{Keeps, check-keeps, acts-keeps}
+use Rattle.command.specs.Frame.{planHead, LaysUnder, givesBytes}
+use Rattle.command.proofs.Acts.{Keeps, check-keeps, acts-keeps}
 
 module _ (g : Shape) (t : Tracks) (s : Position) (o : Orders) (code : ℕ) (v : List ℕ) where
   -- ---- from a plan on
@@ -52,7 +52,7 @@ module _ (g : Shape) (t : Tracks) (s : Position) (o : Orders) (code : ℕ) (v : 
 
   -- a Unit Check lays nothing
   pub check-lays : isCheck (command g t s o code v .ending) ≡ true → command g t s o code v .lays ≡ []
-  check-lays = command-keeps .checked
+  check-lays = command-keeps .lays .checked
 
   -- only a write lays anything
   pub only-writes-lay : isWrite (ruleOf code .act) ≡ false → command g t s o code v .lays ≡ []

@@ -10,16 +10,16 @@ use Rattle.areas.specs.declared.{Area.Area}
 use Rattle.areas.specs.Areas.{areaCells, homeArea, countArea, readCount}
 use Rattle.pack.specs.declared.{Head.Head, Shape.Shape}
 use Rattle.held.specs.declared.{Selection.Selection, Position.Position, Orders.Orders}
 use Rattle.command.specs.Command.{namedBy, Marks, marksOf, licensed, toNext, toServed, aimed, unlessBarred, planOf, onHead, areasOf, planReads, ruleTurn, command}
 use Rattle.table.specs.declared.{Aim.Aim, Names.Names, Rule.Rule}
 use Rattle.table.specs.Table.{ruleOf}
 use Rattle.turn.specs.Turn.{Tracks, alone, TrackArea}
 use Rattle.command.specs.declared.{Plan.Plan}
 use Rattle.command.specs.declared.Plan.the-variants.{Refuses, Works}
 use Rattle.command.proofs.Planned.{Planned, refuses, stays, home, takes, plan-is}
-use Rattle.claim_frame.specs.Frame.{AllSame, planHead, ReadsUnder, LaysUnder}
-use Rattle.claim_frame.proofs.Turns.{planTurn, command-reads, command-lays}
-use Rattle.claim_frame.proofs.Kept.{Agrees, plan-kept}
+use Rattle.command.specs.Frame.{AllSame, planHead, ReadsUnder, LaysUnder}
+use Rattle.command.proofs.Turns.{planTurn, command-reads, command-lays}
+use Rattle.command.proofs.Kept.{Agrees, plan-kept}
 
 -- ---- a plan's head
 

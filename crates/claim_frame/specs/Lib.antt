@@ -1,2 +1,0 @@
--- What a command sees of the pack.
-pub mod Frame
