@@ -31,7 +31,7 @@ pub const PART: Part = Part {
 };
 
 fn what() -> String {
-    format!("a chain of {} control commands: Seek, Seek Head, Sense and TIC in turn", thousands(WORDS))
+    format!("a chain of {} control commands: Set File Mask, then Seek, Seek Head, Sense and TIC in turn", thousands(WORDS))
 }
 
 // ---- the chain

@@ -38,8 +38,7 @@ pub extern "C" fn poplar_start(
     match held::keep(bytes) {
         Kept::Holds(h) => {
             let heard = host::start(g, h, storage, cells);
-            let left = heard.held;
-            held::put(bytes, left);
+            held::put(bytes, heard.held);
             let answer = heard.answer;
             host::number_of(answer)
         }
@@ -64,8 +63,7 @@ pub extern "C" fn poplar_go(
     match held::keep(bytes) {
         Kept::Holds(h) => {
             let heard = host::go(g, h, storage, cells, allowance);
-            let left = heard.held;
-            held::put(bytes, left);
+            held::put(bytes, heard.held);
             let answer = heard.answer;
             host::number_of(answer)
         }

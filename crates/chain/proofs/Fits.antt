@@ -7,14 +7,13 @@ use lib.Dec.{ltb, leb}
 use borrow.Author.Tests.{ltb-true, leb-true, lt-ltb, le-leb}
 use Rattle.cells.specs.Cells.{trackCells, marks}
 use Rattle.cells.proofs.Tests.{first-of, second-of, both-of}
-use Rattle.mask.specs.Mask.{isMask}
 use Rattle.words.specs.Words.{addresses}
 use Rattle.pack.specs.declared.{Shape.Shape}
 use Rattle.pack.specs.Pack.{cylinderOn, headOn}
 use Rattle.pack.specs.Pack as Tracks
 use Rattle.command.specs.Command.{mostTally, SelectedOn}
 use Rattle.command.proofs.Plans.{Leaves}
-use Rattle.table.specs.Table.{ruleOf}
+use Rattle.table.specs.Table.{ruleOf, isMask}
 use Rattle.held.specs.declared.{Selection.Selection, Position.Position, Orders.Orders, Channel.Channel}
 use Rattle.held.specs.declared.Selection.the-variants.{Nothing, On}
 use Rattle.turn.specs.Turn.{ordersOf}

@@ -17,7 +17,7 @@ use Rattle.held.specs.declared.{Held.Held}
 use Rattle.held.specs.Held.{rested}
 use Rattle.turn.specs.Turn.{Turn, lay}
 use Rattle.command.proofs.Here.{command-here}
-use Rattle.channel.specs.Channel.{fetched, World, world, wordEnd, turnOn, obeyedOn, stops}
+use Rattle.channel.specs.Channel.{fetched, World, world, wordEnd, turnOn, obeyedOn, jumped, stops}
 use Rattle.channel.specs.Inside.{CanObey}
 use Rattle.chain.specs.Step.{Legal, under, trackUnder, next, tracksOf, turnOf, settled, obeyed, stepBy, step}
 use Rattle.chain.proofs.Fits.{key-in, selected-on, channeled, ordered}
@@ -28,14 +28,24 @@ world-eq p q r = λ i. record { held = p i; storage = q i; cells = r i }
 
 -- ---- a step
 
-pub stopped : (h r : Held) (cause : Cause) (s u c : List ℕ) → r ≡ rested (h .position)
-    → u ≡ stored s (programCheck (h .channel .key) (h .channel .next) cause) → world r u c ≡ stops (world h s c) cause
-unfolding stops
-stopped h r cause s u c p q = world-eq p q refl
+-- by what the next word's tests say
+module _ (g : Shape) (h r : Held) (s c : List ℕ) (x : Tested) (next-is : x ≡ tested s (h .channel .next) (h .channel .«after_tic»)) where
+  taken : (v : World) (y : Tested) → x ≡ y → v ≡ stepBy g (world h s c) y → v ≡ step g (world h s c)
+  unfolding step next
+  taken v y q e = e ∙ ap (stepBy g (world h s c)) (sym q ∙ next-is)
 
-pub taken : (g : Shape) (w v : World) (x y : Tested) → x ≡ tested (w .storage) (w .held .channel .next) (w .held .channel .«after_tic») → x ≡ y → v ≡ stepBy g w y → v ≡ step g w
-unfolding step next
-taken g w v x y p q r = r ∙ ap (stepBy g w) (sym q ∙ p)
+  pub step-obeys : (w : Word) (u d : List ℕ) → x ≡ Tested.Obey w → world r u d ≡ obeyed g (world h s c) w → world r u d ≡ step g (world h s c)
+  unfolding stepBy
+  step-obeys w u d q e = taken (world r u d) (Tested.Obey w) q e
+
+  pub step-jumps : (a : ℕ) → x ≡ Tested.Jump a → r ≡ jumped h a → world r s c ≡ step g (world h s c)
+  unfolding stepBy
+  step-jumps a q e = taken (world r s c) (Tested.Jump a) q (world-eq e refl refl)
+
+  pub step-ends : (cause : Cause) (u : List ℕ) → x ≡ Tested.Bad cause → r ≡ rested (h .position)
+      → u ≡ stored s (programCheck (h .channel .key) (h .channel .next) cause) → world r u c ≡ step g (world h s c)
+  unfolding stepBy stops
+  step-ends cause u q e f = taken (world r u c) (Tested.Bad cause) q (world-eq e f refl)
 
 pub word-reaches : (s : List ℕ) (at : ℕ) (tic : Bool) (x : Tested) (w : Word) → x ≡ tested s at tic → x ≡ Obey w → AreaFits s w
 word-reaches s at tic x w p q = record { area = subst (TestedIn s) (sym p ∙ q) (tested-in s at tic) }

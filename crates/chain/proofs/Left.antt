@@ -12,8 +12,6 @@ use Rattle.cells.specs.Cells.{pick, both, padded, trackCells, marker, marks}
 use Rattle.cells.proofs.Marks.{getD-marks, mark-here}
 use Rattle.cells.proofs.Tests.{pick-all, first-of, second-of}
 use Rattle.rows.specs.declared.{Row.Row}
-use Rattle.mask.specs.declared.{Seeking.Seeking}
-use Rattle.mask.specs.Mask.{isMask}
 use Rattle.house_check.specs.Check as House
 use Rattle.areas.specs.declared.{Counts.Counts}
 use Rattle.areas.specs.Areas.{homeBytes, r0First, keyArea, dataArea, recordCells, endBy, needed}
@@ -34,8 +32,8 @@ use Rattle.format.proofs.Laws.{formatted, length-area, length-new, formatted-in
 use Rattle.command.specs.Command.{mostTally, named, Marks, marksOf, planOf, Sight, sight, allRecorded, goesOver, writesOver, failTurn, positionAfter, ordersAfter, endTurnAt, endTurn, endingOf, noOpTurn, senseTurn, soughtBy, addressed, arrivalTurn, seekTurn, maskedTurn, maskTurn, spacedPlace, spaceTurn, fieldTurn, searchTurn, readTurn, piece, toEnd, homeTurn, recordTakes, newTurn, r0Turn, recordTurn, overPiece, keySent, updateTurn, controlTurn, writeTurn, actTurn, jobOf, hasRead, readyBy, readyTurn, ruleTurn, command, task}
 use Rattle.command.specs.declared.{Got.Got, Task.Task, Job.Job, Plan.Plan}
 use Rattle.command.specs.declared.Got.the-variants.{Sees, Fails}
-use Rattle.table.specs.declared.{Control.Control, Write.Write, Act.Act, Rule.Rule}
-use Rattle.table.specs.Table.{ruleOf, isHome, controls, searches, reads, writes}
+use Rattle.table.specs.declared.{Control.Control, Write.Write, Act.Act, Rule.Rule, Seeking.Seeking}
+use Rattle.table.specs.Table.{ruleOf, isHome, controls, searches, reads, writes, isMask}
 use Rattle.table.proofs.Laws.{every, each, of-every}
 use Rattle.command.specs.declared.Plan.the-variants.{Refuses, Works}
 use Rattle.command.proofs.Planned.{takesRecord, isR0}

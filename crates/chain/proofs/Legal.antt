@@ -9,7 +9,6 @@ use lib.ListN.{length, length-take}
 use Rattle.cells.specs.Cells.{pick, part, overlay, trackCells, marks}
 use Rattle.cells.proofs.Laws.{length-overlay, part-overlay}
 use Rattle.cells.proofs.Tests.{pick-all}
-use Rattle.mask.specs.Mask.{isMask}
 use Rattle.words.specs.declared.{Word.Word, Tested.Tested, Status.Status, Cause.Cause}
 use Rattle.words.specs.declared.Tested.the-variants.{Obey, Jump, Bad}
 use Rattle.words.specs.Words.{AreaFits, stored, statusBytes, statusAt}
@@ -22,7 +21,7 @@ use Rattle.held.specs.declared.{Position.Position, Held.Held}
 use Rattle.held.specs.Held.{fresh, freshOrders, freshChannel, rested}
 use Rattle.turn.specs.Turn.{Turn, given, reportOf, lay}
 use Rattle.channel.specs.Channel.{onward, stride, fetched, placed, goesOn, heldAfter, statusAfter, withStatus, storageAfter, World, world, stops, jumped}
-use Rattle.table.specs.Table.{controls, searches, reads, writes, find, ruleOf}
+use Rattle.table.specs.Table.{controls, searches, reads, writes, find, ruleOf, isMask}
 use Rattle.command.proofs.Pieces.{length-laid}
 use Rattle.chain.specs.Step.{under, trackUnder, next, tracksOf, layOn, turnOf, settled, obeyed, stepBy, step, positionFits, channelFits, selectionFits, ordersFit, Legal}
 use Rattle.chain.proofs.Fits.{position-on, key-in, channel-fits, held-fits, standing, channeled, ordered}

@@ -24,33 +24,33 @@ use Rattle.channel.specs.Channel.{endsWell, stride, onward, fetched, placed, mo
 use Rattle.table.specs.Table.{ruleOf, find, controls}
 use Rattle.command.specs.Command.{licensed, aimed, unlessBarred, planOf, areasOf, allRead, countsIn, gets, areasRead, sight, positionAfter, senseAfter, ordersAfter, endTurnAt, endTurn, noOpTurn, controlTurn, actTurn, hasRead, readyBy, planReads, readyTurn, ruleTurn, command}
 use Rattle.chain.specs.Step.{next, tracksOf, layOn, turnOf, settled, obeyed, stepBy, step, run, Legal}
-use Rattle.chain.specs.Stroke.{passes, passing, passed, Passed}
+use Rattle.chain.specs.Stroke.{chainedNoOp, testedChainedNoOp, afterNoOps, SameRun}
 use Rattle.chain.proofs.Laws.{world-eq}
 use Rattle.chain.proofs.Legal.{step-legal}
 use Rattle.chain.proofs.Runs.{run-more}
 
 -- whether a TIC came before does not matter to it
 module _ (s : List ℕ) (at : ℕ) where
-  same-test : (tic : Bool) → passing (tested s at false) ≡ true → tested s at tic ≡ tested s at false
-  unfolding tested testedWord passing
+  same-test : (tic : Bool) → testedChainedNoOp (tested s at false) ≡ true → tested s at tic ≡ tested s at false
+  unfolding tested testedWord testedChainedNoOp
   same-test tic e = go (Words.inPlace s at) (isTic (wordAt s at)) _ _ _ _ e
     where
-      go : (p q : Bool) (a : ℕ) (u v x : Tested) → passing (pick p (pick q (Jump a) u) v) ≡ true → pick p (pick q (pick tic x (Jump a)) u) v ≡ pick p (pick q (Jump a) u) v
+      go : (p q : Bool) (a : ℕ) (u v x : Tested) → testedChainedNoOp (pick p (pick q (Jump a) u) v) ≡ true → pick p (pick q (pick tic x (Jump a)) u) v ≡ pick p (pick q (Jump a) u) v
       go true true a u v x e = absurd (false≢true e)
       go true false a u v x e = refl
       go false q a u v x e = refl
 
 module _ (w : Word) where
-  pub other-code : (w .code ≡ 0x03 → ⊥) → false ≡ passes w
-  unfolding passes
+  pub other-code : (w .code ≡ 0x03 → ⊥) → false ≡ chainedNoOp w
+  unfolding chainedNoOp
   other-code e = ap (λ (b : Bool). both b (chains w)) (sym (ne-eqb _ _ e))
 
-  pub by-flag : w .code ≡ 0x03 → chains w ≡ passes w
-  unfolding passes
+  pub by-flag : w .code ≡ 0x03 → chains w ≡ chainedNoOp w
+  unfolding chainedNoOp
   by-flag e = ap (λ (b : Bool). both b (chains w)) (sym (eq-eqb _ _ e))
 
-pub by-test : (s : List ℕ) (at : ℕ) (x y : Tested) (r : Bool) → x ≡ tested s at false → x ≡ y → r ≡ passing y → r ≡ passing (tested s at false)
-by-test s at x y r p q e = e ∙ ap passing (sym q ∙ p)
+pub by-test : (s : List ℕ) (at : ℕ) (x y : Tested) (r : Bool) → x ≡ tested s at false → x ≡ y → r ≡ testedChainedNoOp y → r ≡ testedChainedNoOp (tested s at false)
+by-test s at x y r p q e = e ∙ ap testedChainedNoOp (sym q ∙ p)
 
 -- a No-op's turn: nothing moves, nothing is laid, and sense stands
 no-op : (g : Shape) (t : Tracks) (s : Position) (o : Orders) (v : List ℕ) → command g t s o 0x03 v ≡ turn Normal None [] [] s (after o 0x03 false 0 Nothing)
@@ -72,68 +72,68 @@ module _ (g : Shape) (w : World) (L : Legal g w) where
     unfolding goesOn wrongLength lengthCounts movesAny endsWell reportOf transferOf
     goes-on = ap (λ (b : Bool). both b true) on
 
-    held-on : heldAfter (w .held .channel) d (reportOf x) ≡ passed (w .held) (along (w .held .channel .next) 8)
-    unfolding heldAfter onward stride passed reportOf
+    held-on : heldAfter (w .held .channel) d (reportOf x) ≡ afterNoOps (w .held) (along (w .held .channel .next) 8)
+    unfolding heldAfter onward stride afterNoOps reportOf
     held-on = first-picked _ _ _ goes-on
 
     storage-on : storageAfter (w .held .channel) d x (w .storage) ≡ w .storage
     unfolding storageAfter withStatus placed given
     storage-on = first-picked _ _ _ goes-on ∙ ap (overlay (w .storage) (d .address)) (take-nil (d .count)) ∙ overlay-none (w .storage) (d .address)
 
-    obeyed-no-op : obeyed g w d ≡ world (passed (w .held) (along (w .held .channel .next) 8)) (w .storage) (w .cells)
+    obeyed-no-op : obeyed g w d ≡ world (afterNoOps (w .held) (along (w .held .channel .next) 8)) (w .storage) (w .cells)
     unfolding obeyed settled layOn
     obeyed-no-op = ap (settled g w d) turn-no-op ∙ world-eq held-on storage-on refl
 
-  takes-pass : (x : Tested) → passing x ≡ true → stepBy g w x ≡ world (passed (w .held) (along (w .held .channel .next) 8)) (w .storage) (w .cells)
-  unfolding stepBy passing passes
-  takes-pass (Obey d) e = obeyed-no-op d (eqb-true _ _ (first-of (eqb (d .code) 0x03) _ e)) (second-of (eqb (d .code) 0x03) _ e)
-  takes-pass (Jump a) e = absurd (false≢true e)
-  takes-pass (Bad cause) e = absurd (false≢true e)
+  takes-no-op : (x : Tested) → testedChainedNoOp x ≡ true → stepBy g w x ≡ world (afterNoOps (w .held) (along (w .held .channel .next) 8)) (w .storage) (w .cells)
+  unfolding stepBy testedChainedNoOp chainedNoOp
+  takes-no-op (Obey d) e = obeyed-no-op d (eqb-true _ _ (first-of (eqb (d .code) 0x03) _ e)) (second-of (eqb (d .code) 0x03) _ e)
+  takes-no-op (Jump a) e = absurd (false≢true e)
+  takes-no-op (Bad cause) e = absurd (false≢true e)
 
-  step-passes : passing (tested (w .storage) (w .held .channel .next) false) ≡ true
-      → step g w ≡ world (passed (w .held) (along (w .held .channel .next) 8)) (w .storage) (w .cells)
+  step-no-op : testedChainedNoOp (tested (w .storage) (w .held .channel .next) false) ≡ true
+      → step g w ≡ world (afterNoOps (w .held) (along (w .held .channel .next) 8)) (w .storage) (w .cells)
   unfolding step next
-  step-passes e = ap (stepBy g w) (same-test _ _ _ e) ∙ takes-pass _ e
+  step-no-op e = ap (stepBy g w) (same-test _ _ _ e) ∙ takes-no-op _ e
 
 -- ---- a run of them
 
 module _ (h : Held) where
-  pub passed-is : (next : ℕ) (o : Orders) → o ≡ after (h .orders) 0x03 false 0 Nothing
-      → record { position = h .position; orders = o; channel = record { going = h .channel .going; key = h .channel .key; next = next; «after_tic» = false } } ≡ passed h next
-  unfolding passed
-  passed-is next o e = ap (λ (x : Orders). record { position = h .position; orders = x; channel = record { going = h .channel .going; key = h .channel .key; next = next; «after_tic» = false } }) e
+  pub no-ops-are : (next : ℕ) (o : Orders) → o ≡ after (h .orders) 0x03 false 0 Nothing
+      → record { position = h .position; orders = o; channel = record { going = h .channel .going; key = h .channel .key; next = next; «after_tic» = false } } ≡ afterNoOps h next
+  unfolding afterNoOps
+  no-ops-are next o e = ap (λ (x : Orders). record { position = h .position; orders = x; channel = record { going = h .channel .going; key = h .channel .key; next = next; «after_tic» = false } }) e
 
-  passed-goes : h .channel .going ≡ true → (a : ℕ) → passed h a .channel .going ≡ true
-  unfolding passed
-  passed-goes e a = e
+  no-ops-go : h .channel .going ≡ true → (a : ℕ) → afterNoOps h a .channel .going ≡ true
+  unfolding afterNoOps
+  no-ops-go e a = e
 
 module _ (s : List ℕ) (h : Held) (n : ℕ) (going : h .channel .going ≡ true) where
-  one-more : 0 < n → passing (tested s (h .channel .next) false) ≡ true → Passed s h n (passed h (along (h .channel .next) 8)) (n - 1)
+  one-more : 0 < n → testedChainedNoOp (tested s (h .channel .next) false) ≡ true → SameRun s h n (afterNoOps h (along (h .channel .next) 8)) (n - 1)
   one-more k e = record {
-    same = λ g c L. run-more g n (world h s c) k going ∙ ap (run g (n - 1)) (step-passes g (world h s c) L e);
-    legal = λ g c L. subst (Legal g) (step-passes g (world h s c) L e) (step-legal g (world h s c) L);
+    same = λ g c L. run-more g n (world h s c) k going ∙ ap (run g (n - 1)) (step-no-op g (world h s c) L e);
+    legal = λ g c L. subst (Legal g) (step-no-op g (world h s c) L e) (step-legal g (world h s c) L);
   }
 
-  pub passed-first : (next : ℕ) → next ≡ along (h .channel .next) 8 → 0 < n → passing (tested s (h .channel .next) false) ≡ true
-      → Passed s h n (passed h next) (n - 1) × (n - 1 < n)
-  passed-first next a k e = (subst (λ (m : ℕ). Passed s h n (passed h m) (n - 1)) (sym a) (one-more k e), omega (arith, k))
+  pub no-ops-first : (next : ℕ) → next ≡ along (h .channel .next) 8 → 0 < n → testedChainedNoOp (tested s (h .channel .next) false) ≡ true
+      → SameRun s h n (afterNoOps h next) (n - 1) × (n - 1 < n)
+  no-ops-first next a k e = (subst (λ (m : ℕ). SameRun s h n (afterNoOps h m) (n - 1)) (sym a) (one-more k e), omega (arith, k))
 
 -- two runs are one
-both-passed : {s : List ℕ} {h i k : Held} {n m l : ℕ} → Passed s h n i m → Passed s i m k l → Passed s h n k l
-both-passed p q = record { same = λ g c L. p .same g c L ∙ q .same g c (p .legal g c L); legal = λ g c L. q .legal g c (p .legal g c L) }
+runs-join : {s : List ℕ} {h i k : Held} {n m l : ℕ} → SameRun s h n i m → SameRun s i m k l → SameRun s h n k l
+runs-join p q = record { same = λ g c L. p .same g c L ∙ q .same g c (p .legal g c L); legal = λ g c L. q .legal g c (p .legal g c L) }
 
-module _ (s : List ℕ) (h : Held) (n : ℕ) (going : h .channel .going ≡ true) (at left : ℕ) (p : Passed s h n (passed h at) left × (left < n)) where
-  passed-on : 0 < left → passing (tested s at false) ≡ true → Passed s h n (passed h (along at 8)) (left - 1)
-  unfolding passed after ordersOf
-  passed-on k e = both-passed (p .0) (one-more s (passed h at) left (passed-goes h going at) k e)
+module _ (s : List ℕ) (h : Held) (n : ℕ) (going : h .channel .going ≡ true) (at left : ℕ) (p : SameRun s h n (afterNoOps h at) left × (left < n)) where
+  no-ops-on : 0 < left → testedChainedNoOp (tested s at false) ≡ true → SameRun s h n (afterNoOps h (along at 8)) (left - 1)
+  unfolding afterNoOps after ordersOf
+  no-ops-on k e = runs-join (p .0) (one-more s (afterNoOps h at) left (no-ops-go h going at) k e)
 
-  pub passed-more : (next : ℕ) (b : Bool) → next ≡ along at 8 → 0 < left → b ≡ passing (tested s at false) → b ≡ true
-      → Passed s h n (passed h next) (left - 1) × (left - 1 < n)
-  passed-more next b a k e f =
-      (subst (λ (m : ℕ). Passed s h n (passed h m) (left - 1)) (sym a) (passed-on k (sym e ∙ f)), omega (arith, p .1))
+  pub no-ops-more : (next : ℕ) (b : Bool) → next ≡ along at 8 → 0 < left → b ≡ testedChainedNoOp (tested s at false) → b ≡ true
+      → SameRun s h n (afterNoOps h next) (left - 1) × (left - 1 < n)
+  no-ops-more next b a k e f =
+      (subst (λ (m : ℕ). SameRun s h n (afterNoOps h m) (left - 1)) (sym a) (no-ops-on k (sym e ∙ f)), omega (arith, p .1))
 
-pub passed-told : (s : List ℕ) (h : Held) (n at left : ℕ) (k : Held) → Passed s h n (passed h at) left × (left < n) → k ≡ passed h at → Passed s h n k left × (left < n)
-passed-told s h n at left k p e = (subst (λ (i : Held). Passed s h n i left) (sym e) (p .0), p .1)
+pub no-ops-told : (s : List ℕ) (h : Held) (n at left : ℕ) (k : Held) → SameRun s h n (afterNoOps h at) left × (left < n) → k ≡ afterNoOps h at → SameRun s h n k left × (left < n)
+no-ops-told s h n at left k p e = (subst (λ (i : Held). SameRun s h n i left) (sym e) (p .0), p .1)
 
 -- ---- an allowance, by a step or by a stroke
 
@@ -144,5 +144,5 @@ Used g w n v left = (run g n w ≡ run g left v) × Legal g v × (left < n)
 pub by-step : (g : Shape) (w v : World) (n : ℕ) → Legal g w → 0 < n → w .held .channel .going ≡ true → v ≡ step g w → Used g w n v (n - 1)
 by-step g w v n L k e p = (run-more g n w k e ∙ ap (run g (n - 1)) (sym p), subst (Legal g) (sym p) (step-legal g w L), omega (arith, k))
 
-pub by-stroke : (g : Shape) (s c : List ℕ) (h k : Held) (n left : ℕ) → Legal g (world h s c) → Passed s h n k left × (left < n) → Used g (world h s c) n (world k s c) left
+pub by-stroke : (g : Shape) (s c : List ℕ) (h k : Held) (n left : ℕ) → Legal g (world h s c) → SameRun s h n k left × (left < n) → Used g (world h s c) n (world k s c) left
 by-stroke g s c h k n left L p = (p .0 .same g c L, p .0 .legal g c L, p .1)

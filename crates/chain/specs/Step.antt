@@ -7,14 +7,13 @@ use mathlib.Core.List.{List, [], _∷_}
 use lib.ListN.{length}
 use lib.Dec.{ltb, leb}
 use Rattle.cells.specs.Cells.{pick, both, overlay, trackCells, marks}
-use Rattle.mask.specs.Mask.{isMask}
 use Rattle.words.specs.declared.{Word.Word, Tested.Tested}
 use Rattle.words.specs.Words.{tested, addresses}
 use Rattle.hunt.specs.Hunt.{spotFits}
 use Rattle.pack.specs.declared.{Cylinder.Cylinder, Shape.Shape}
 use Rattle.pack.specs.Pack.{startOf, trackAt, cylinderOn, headOn, WholePack}
 use Rattle.held.specs.declared.{Held.Held, Selection.Selection, Position.Position, Orders.Orders, Channel.Channel}
-use Rattle.table.specs.Table.{isWrite, ruleOf}
+use Rattle.table.specs.Table.{isWrite, ruleOf, isMask}
 use Rattle.turn.specs.Turn.{Tracks, TrackArea, Piece, Turn}
 use Rattle.command.specs.Command.{command, mostTally}
 use Rattle.channel.specs.Channel.{fetched, World, world, stops, jumped, wordEnd}

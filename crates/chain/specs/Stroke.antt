@@ -15,23 +15,23 @@ use Rattle.channel.specs.Channel.{world}
 use Rattle.chain.specs.Step.{run, Legal}
 
 -- No-op, with flag 40
-unfoldable pub passes : Word → Bool
-passes w = both (eqb (w .code) 0x03) (chains w)
+unfoldable pub chainedNoOp : Word → Bool
+chainedNoOp w = both (eqb (w .code) 0x03) (chains w)
 
-unfoldable pub passing : Tested → Bool
-passing (Tested.Obey w) = passes w
-passing (Tested.Jump a) = false
-passing (Tested.Bad cause) = false
+unfoldable pub testedChainedNoOp : Tested → Bool
+testedChainedNoOp (Tested.Obey w) = chainedNoOp w
+testedChainedNoOp (Tested.Jump a) = false
+testedChainedNoOp (Tested.Bad cause) = false
 
 -- what is held after No-ops, with this next word
-unfoldable pub passed : Held → ℕ → Held
-passed h next = record {
+unfoldable pub afterNoOps : Held → ℕ → Held
+afterNoOps h next = record {
   position = h .position;
   orders = after (h .orders) 0x03 false 0 Selection.Nothing;
   channel = record { going = h .channel .going; key = h .channel .key; next = next; «after_tic» = false };
 }
 
 -- on any pack: an allowance from what was held comes to what is left of it from what is held now, and a legal world stays legal
-pub record Passed (s : List ℕ) (h : Held) (n : ℕ) (k : Held) (left : ℕ) : Type 0 where
+pub record SameRun (s : List ℕ) (h : Held) (n : ℕ) (k : Held) (left : ℕ) : Type 0 where
   pub same : (g : Shape) (c : List ℕ) → Legal g (world h s c) → run g n (world h s c) ≡ run g left (world k s c)
   pub legal : (g : Shape) (c : List ℕ) → Legal g (world h s c) → Legal g (world k s c)

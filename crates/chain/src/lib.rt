@@ -13,7 +13,7 @@ ghost use Prim.Native.Nat.{ℕ, _<_, _≤_};
 ghost use Rattle.words.specs.Words.{AreaFits, tested};
 ghost use Rattle.channel.specs.Channel.{world};
 ghost use Rattle.chain.specs.Step.{obeyed, step, run, Legal};
-ghost use Rattle.chain.specs.Stroke.{passes, passing, passed, Passed};
+ghost use Rattle.chain.specs.Stroke.{chainedNoOp, testedChainedNoOp, afterNoOps, SameRun};
 
 const NO_OP: u8 = 0x03;
 
@@ -22,10 +22,7 @@ fn command(g: Shape, h: Held, w: Word, storage: &mut [u8], cells: &mut [u16]) ->
     requires { ⌜ Legal g (world h (now storage) (now cells)) × AreaFits (now storage) w ⌝ }
     ensures { λ r. ⌜ world r (now (storage .exit)) (now (cells .exit)) ≡ obeyed g (world h (now (storage .entry)) (now (cells .entry))) w ⌝ }
 {
-    let position = h.position;
-    let cylinder = position.cylinder;
-    let head = position.head;
-    let start = pack::start_of(g, cylinder, head);
+    let start = pack::start_of(g, h.position.cylinder, h.position.head);
     let end = start + cells::TRACK_CELLS;
     channel::obey(g, h, w, storage, &mut cells[start..end])
 }
@@ -49,8 +46,8 @@ struct Reached {
 }
 
 // Whether a word is a No-op that chains.
-fn passes(w: Word) -> bool
-    ensures { λ r. ⌜ r ≡ passes w ⌝ }
+fn is_chained_no_op(w: Word) -> bool
+    ensures { λ r. ⌜ r ≡ chainedNoOp w ⌝ }
 {
     if w.code != NO_OP {
         return false;
@@ -59,18 +56,18 @@ fn passes(w: Word) -> bool
 }
 
 // Whether the word at an address is one.
-fn is_pass(storage: &[u8], at: u32) -> bool
-    ensures { λ r. ⌜ r ≡ passing (tested (now (storage .entry)) at false) ⌝ }
+fn is_chained_no_op_at(storage: &[u8], at: u32) -> bool
+    ensures { λ r. ⌜ r ≡ testedChainedNoOp (tested (now (storage .entry)) at false) ⌝ }
 {
     match words::test(storage, at, false) {
-        Tested::Obey(w) => passes(w),
+        Tested::Obey(w) => is_chained_no_op(w),
         Tested::Jump(_) => false,
         Tested::Bad(_) => false,
     }
 }
 
-fn passed(h: Held, next: u32) -> Held
-    ensures { λ r. ⌜ r ≡ passed h next ⌝ }
+fn after_no_ops(h: Held, next: u32) -> Held
+    ensures { λ r. ⌜ r ≡ afterNoOps h next ⌝ }
 {
     let position = h.position;
     let orders = Orders {
@@ -95,16 +92,16 @@ fn passed(h: Held, next: u32) -> Held
 }
 
 // A run of No-ops that chain, in one stroke: they need no track.
-fn pass(h: Held, storage: &[u8], allowance: u16) -> Reached
-    requires { ⌜ (0 < allowance) × (h .channel .going ≡ true) × (passing (tested (now storage) (h .channel .next) false) ≡ true) ⌝ }
-    ensures { λ r. ⌜ Passed (now (storage .entry)) h allowance (r .held) (r .left) × (r .left < allowance) ⌝ }
+fn pass_no_ops(h: Held, storage: &[u8], allowance: u16) -> Reached
+    requires { ⌜ (0 < allowance) × (h .channel .going ≡ true) × (testedChainedNoOp (tested (now storage) (h .channel .next) false) ≡ true) ⌝ }
+    ensures { λ r. ⌜ SameRun (now (storage .entry)) h allowance (r .held) (r .left) × (r .left < allowance) ⌝ }
 {
     let mut next = words::advanced(h.channel.next, words::WORD);
     let mut rest = allowance - 1;
     while 0 < rest {
-        if !is_pass(storage, next) {
+        if !is_chained_no_op_at(storage, next) {
             return Reached {
-                held: passed(h, next),
+                held: after_no_ops(h, next),
                 left: rest,
             };
         }
@@ -112,7 +109,7 @@ fn pass(h: Held, storage: &[u8], allowance: u16) -> Reached
         rest -= 1;
     }
     Reached {
-        held: passed(h, next),
+        held: after_no_ops(h, next),
         left: rest,
     }
 }
@@ -124,8 +121,8 @@ fn advance(g: Shape, h: Held, storage: &mut [u8], cells: &mut [u16], left: u16) 
         ≡ run g (r .left) (world (r .held) (now (storage .exit)) (now (cells .exit))))
         × Legal g (world (r .held) (now (storage .exit)) (now (cells .exit))) × (r .left < left) ⌝ }
 {
-    if is_pass(storage, h.channel.next) {
-        return pass(h, storage, left);
+    if is_chained_no_op_at(storage, h.channel.next) {
+        return pass_no_ops(h, storage, left);
     }
     let held = step(g, h, storage, cells);
     Reached {

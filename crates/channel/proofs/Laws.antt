@@ -1,5 +1,5 @@
 -- Laws of how the channel ends a command, by the tests that the code makes.
-use Prim.Native.Nat.{ℕ, _/_, _%_, _<_, _≤_, min}
+use Prim.Native.Nat.{ℕ, _-_, _/_, _%_, _<_, _≤_, min}
 use mathlib.Core.Path.{_≡_, refl, sym, ap, _∙_, subst}
 use mathlib.Core.Bool.{Bool, true, false, not}
 use mathlib.Core.List.{List}
@@ -13,7 +13,7 @@ use Rattle.words.specs.declared.{Word.Word, Status.Status}
 use Rattle.words.specs.Words.{chains, suppresses, Storable, stored, statusFor}
 use Rattle.held.specs.declared.{Channel.Channel}
 use Rattle.held.specs.Held.{rested}
-use Rattle.channel.specs.Channel.{endsWell, stride, onward, bytesMoved, lengthCounts, wrongLength, goesOn, statusAfter, heldAfter, withStatus}
+use Rattle.channel.specs.Channel.{unitStatus, endsWell, stride, onward, bytesMoved, lengthCounts, wrongLength, goesOn, statusAfter, heldAfter, withStatus}
 use Rattle.turn.specs.declared.{Report.Report}
 use Rattle.turn.specs.Turn.{wants}
 
@@ -48,6 +48,13 @@ module _ (w : Word) (d : Report) where
   unfolding bytesMoved
   by-wanted b n p e q r =
       rw (r) (shape true false _ (sym p ∙ e) (ne-eqb _ _ q) (differs (w .count) (wants (d .transfer))))
+
+  -- channel status
+  pub length-wrong : (b : Bool) (n : ℕ) → b ≡ wrongLength w d → b ≡ true → n ≡ 0x40 → n ≡ pick (wrongLength w d) 0x40 0x00
+  length-wrong b n p q e = e ∙ ap (λ (x : Bool). pick x 0x40 0x00) (sym q ∙ p)
+
+  pub length-right : (b : Bool) (n : ℕ) → b ≡ wrongLength w d → b ≡ false → n ≡ 0x00 → n ≡ pick (wrongLength w d) 0x40 0x00
+  length-right b n p q e = e ∙ ap (λ (x : Bool). pick x 0x40 0x00) (sym q ∙ p)
 
   -- whether the chain goes on, by the tests
   onto : (a b x : Bool) → chains w ≡ a → wrongLength w d ≡ b → endsWell (d .ending) ≡ x → both a (both (not b) x) ≡ goesOn w d
@@ -84,7 +91,13 @@ module _ (w : Word) (d : Report) where
     unfolding withStatus
     storage-ends b s p q = ap (λ (x : Bool). pick x s (stored s (statusAfter c w d))) (sym q ∙ p)
 
-    -- the status word can be stored
+    -- the status word, by what the code works out
+    pub status-is : (x : Status) (u n m : ℕ) → x ≡ statusFor (c .key) (c .next) u n (w .count - m) → u ≡ unitStatus (d .ending)
+        → n ≡ pick (wrongLength w d) 0x40 0x00 → m ≡ bytesMoved w d → x ≡ statusAfter c w d
+    unfolding statusAfter
+    status-is x u n m e p q r = e ∙ (λ i. statusFor (c .key) (c .next) (p i) (q i) (w .count - r i))
+
+    -- it can be stored
     fits : (s : List ℕ) → 72 ≤ length s → c .key < 16 → Storable s (statusAfter c w d)
     unfolding statusAfter statusFor
     fits s h k = record { reaches = h; key = k; address = omega arith }

@@ -135,7 +135,7 @@ check-laid x d t b h told e f =
 
 pub job-lay : (g : Shape) (j : Job) (w : Word) (s t : List ℕ) → Lays (wordTurn g j w s t)
 unfolding wordTurn
-job-lay g j w s t = acts-keeps (sight (alone t) j (fetched s w)) g (j .rule .act) .lays
+job-lay g j w s t = acts-keeps (sight (alone t) j (fetched s w)) g (j .act) .lays
 
 pub not-check : (g : Shape) (j : Job) (w : Word) (s t : List ℕ) (d : Report) (b : Bool) → d ≡ reportOf (wordTurn g j w s t) → b ≡ isCheck (d .ending) → b ≡ false
     → Accepts j (fetched s w) t

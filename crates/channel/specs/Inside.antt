@@ -20,10 +20,6 @@ use Rattle.channel.specs.Channel.{fetched, placed}
 unfoldable pub wordTurn : Shape → Job → Word → List ℕ → List ℕ → Turn
 wordTurn g j w s t = jobTurn g t j (fetched s w)
 
--- this was told of it
-pub record Asked (g : Shape) (j : Job) (w : Word) (s t : List ℕ) (d : Report) : Type 0 where
-  pub told : d ≡ reportOf (wordTurn g j w s t)
-
 -- a turn was told, its bytes were placed, and its cells were laid
 pub record Turned (x : Turn) (w : Word) (s t s′ t′ : List ℕ) (d : Report) : Type 0 where
   pub told : d ≡ reportOf x

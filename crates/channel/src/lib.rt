@@ -13,15 +13,15 @@ use words::Word;
 ghost use mathlib.Core.Path.{_≡_};
 ghost use Prim.Native.Nat.{_+_, _<_, _≤_};
 ghost use lib.ListN.{length};
-ghost use Rattle.cells.specs.Cells.{pick, marks};
+ghost use Rattle.cells.specs.Cells.{marks};
 ghost use Rattle.turn.specs.Turn.{alone, given, wants, reportOf, lay, isCheck};
 ghost use Rattle.words.specs.Words.{statusAt, wordBytes, AreaFits, stored, programCheck};
 ghost use Rattle.held.specs.Held.{rested};
 ghost use Rattle.hunt.specs.Hunt.{WholeTrack};
 ghost use Rattle.command.specs.Command.{SelectedOn, Sighted};
 ghost use Rattle.unit.specs.Unit.{Accepts};
-ghost use Rattle.channel.specs.Channel.{fetched, unitStatus, endsWell, stride, onward, placed, bytesMoved, movesAny, lengthCounts, wrongLength, goesOn, heldAfter, statusAfter, withStatus, world, jumped, turnOn, obeyedOn};
-ghost use Rattle.channel.specs.Inside.{wordTurn, Asked, Turned, CanObey};
+ghost use Rattle.channel.specs.Channel.{fetched, unitStatus, endsWell, stride, onward, placed, bytesMoved, lengthCounts, wrongLength, goesOn, heldAfter, statusAfter, withStatus, world, jumped, turnOn, obeyedOn};
+ghost use Rattle.channel.specs.Inside.{wordTurn, Turned, CanObey};
 
 // Unit status, and channel status.
 const NORMAL: u8 = 0x0C;
@@ -86,12 +86,6 @@ fn wants(m: Transfer) -> u32
     }
 }
 
-fn moves_any(m: Transfer) -> bool
-    ensures { λ r. ⌜ r ≡ movesAny m ⌝ }
-{
-    if let Transfer::None = m { false } else { true }
-}
-
 fn bytes_moved(w: Word, d: Report) -> u16
     ensures { λ r. ⌜ r ≡ bytesMoved w d ⌝ }
 {
@@ -108,7 +102,11 @@ fn length_counts(d: Report) -> bool
 {
     let m = d.transfer;
     let e = d.ending;
-    moves_any(m) && !is_check(e)
+    if let Transfer::None = m {
+        false
+    } else {
+        !is_check(e)
+    }
 }
 
 // Whether a command is of incorrect length, and flag 20 is off.
@@ -138,20 +136,18 @@ fn onward(c: Channel, n: u32) -> Channel
     }
 }
 
-fn length_status(w: Word, d: Report) -> u8
-    ensures { λ r. ⌜ r ≡ pick (wrongLength w d) 0x40 0x00 ⌝ }
-{
-    if wrong_length(w, d) { WRONG_LENGTH } else { 0 }
-}
-
 fn status_after(c: Channel, w: Word, d: Report) -> Status
     ensures { λ r. ⌜ r ≡ statusAfter c w d ⌝ }
 {
     let e = d.ending;
-    let unit = unit_status(e);
-    let channel = length_status(w, d);
-    let left = w.count - bytes_moved(w, d);
-    words::status_for(c.key, c.next, unit, channel, left)
+    let channel = if wrong_length(w, d) { WRONG_LENGTH } else { 0 };
+    words::status_for(
+        c.key,
+        c.next,
+        unit_status(e),
+        channel,
+        w.count - bytes_moved(w, d),
+    )
 }
 
 // The end of a command: the chain goes on, or its status word is stored and it is at its end.
@@ -159,9 +155,9 @@ fn settle(c: Channel, w: Word, d: Report, storage: &mut [u8]) -> Held
     requires { ⌜ (statusAt + wordBytes ≤ length (now storage)) × (c .key < 16) ⌝ }
     ensures { λ r. ⌜ (r ≡ heldAfter c w d) × (now (storage .exit) ≡ withStatus c w d (now (storage .entry))) ⌝ }
 {
-    let position = d.position;
     if goes_on(w, d) {
         let e = d.ending;
+        let position = d.position;
         let orders = d.orders;
         let channel = onward(c, stride(e));
         return Held {
@@ -171,7 +167,7 @@ fn settle(c: Channel, w: Word, d: Report, storage: &mut [u8]) -> Held
         };
     }
     words::store_status(storage, status_after(c, w, d));
-    Held::rested(position)
+    Held::rested(d.position)
 }
 
 // What a job tells of the bytes at a word's address.
@@ -206,39 +202,25 @@ fn lay(j: Job, w: Word, storage: &[u8], track: &mut [u16])
     unit::lay(j, &storage[at..end], track);
 }
 
-// What is laid, unless the command ends in Unit Check.
-fn take(g: Shape, j: Job, w: Word, d: Report, storage: &[u8], track: &mut [u16])
-    requires { ⌜ AreaFits (now storage) w × WholeTrack (now track) × Sighted (alone (now track)) j × Asked g j w (now storage) (now track) d ⌝ }
-    ensures { λ _. ⌜ now (track .exit) ≡ lay (wordTurn g j w (now (storage .entry)) (now (track .entry)) .lays) (now (track .entry)) ⌝ }
-{
-    let e = d.ending;
-    if is_check(e) {
-        return;
-    }
-    lay(j, w, storage, track);
-}
-
-// A job that was asked gives its bytes, or lays what it took.
-fn move_bytes(g: Shape, j: Job, w: Word, d: Report, storage: &mut [u8], track: &mut [u16])
-    requires { ⌜ AreaFits (now storage) w × WholeTrack (now track) × Sighted (alone (now track)) j × Asked g j w (now storage) (now track) d ⌝ }
-    ensures { λ _. ⌜ Turned (wordTurn g j w (now (storage .entry)) (now (track .entry))) w (now (storage .entry)) (now (track .entry))
-        (now (storage .exit)) (now (track .exit)) d ⌝ }
-{
-    let m = d.transfer;
-    match m {
-        Transfer::None => {}
-        Transfer::Gives(_) => place(j, w, storage, track),
-        Transfer::Takes(_) => take(g, j, w, d, storage, track),
-    }
-}
-
+// A job is asked; then it gives its bytes, or lays what it took, unless it ends in Unit Check.
 fn act(g: Shape, j: Job, w: Word, storage: &mut [u8], track: &mut [u16]) -> Report
     requires { ⌜ AreaFits (now storage) w × WholeTrack (now track) × Sighted (alone (now track)) j ⌝ }
     ensures { λ r. ⌜ Turned (wordTurn g j w (now (storage .entry)) (now (track .entry))) w (now (storage .entry)) (now (track .entry))
         (now (storage .exit)) (now (track .exit)) r ⌝ }
 {
     let d = ask(g, j, w, storage, track);
-    move_bytes(g, j, w, d, storage, track);
+    let m = d.transfer;
+    let e = d.ending;
+    match m {
+        Transfer::None => {}
+        Transfer::Gives(_) => place(j, w, storage, track),
+        Transfer::Takes(_) => {
+            if is_check(e) {
+                return d;
+            }
+            lay(j, w, storage, track);
+        }
+    }
     d
 }
 
@@ -248,10 +230,8 @@ fn turn(g: Shape, h: Held, w: Word, storage: &mut [u8], track: &mut [u16]) -> Re
     ensures { λ r. ⌜ Turned (turnOn g (world h (now (storage .entry)) (now (track .entry))) w) w (now (storage .entry)) (now (track .entry))
         (now (storage .exit)) (now (track .exit)) r ⌝ }
 {
-    let position = h.position;
-    let orders = h.orders;
-    match unit::ready(w.code, track, position, orders) {
-        Ready::Refuses(row) => ending::failed(position, orders, row),
+    match unit::ready(w.code, track, h.position, h.orders) {
+        Ready::Refuses(row) => ending::failed(h.position, h.orders, row),
         Ready::Acts(j) => act(g, j, w, storage, track),
     }
 }
@@ -281,10 +261,9 @@ pub fn stop(h: Held, cause: Cause, storage: &mut [u8]) -> Held
     ensures { λ r. ⌜ (r ≡ rested (h .position))
         × (now (storage .exit) ≡ stored (now (storage .entry)) (programCheck (h .channel .key) (h .channel .next) cause)) ⌝ }
 {
-    let position = h.position;
     let status = words::program_check(h.channel.key, h.channel.next, cause);
     words::store_status(storage, status);
-    Held::rested(position)
+    Held::rested(h.position)
 }
 
 // A word to obey: its command has its turn on the track under the head, and the channel ends it.
@@ -293,6 +272,5 @@ pub fn obey(g: Shape, h: Held, w: Word, storage: &mut [u8], track: &mut [u16]) -
     ensures { λ r. ⌜ world r (now (storage .exit)) (now (track .exit)) ≡ obeyedOn g (world h (now (storage .entry)) (now (track .entry))) w ⌝ }
 {
     let d = turn(g, h, w, storage, track);
-    let channel = h.channel;
-    settle(channel, w, d, storage)
+    settle(h.channel, w, d, storage)
 }

@@ -25,9 +25,9 @@ use Rattle.chain.proofs.Runs.{run-on, run-idle, run-split, run-legal}
 use Rattle.host.specs.declared.{Answer.Answer, Guarded.Guarded}
 use Rattle.host.specs.declared.Answer.the-variants.{ChainEnded, AllowanceUsed, BadStart, NoChain, ChainGoing}
 use Rattle.host.specs.declared.Guarded.the-variants.{Passes, Answers}
-use Rattle.host.specs.Host.{Hears, hears, guardOf, guards, refusesStart, firstWord, begins, starts, ran, goes}
+use Rattle.host.specs.Host.{Hears, hears, guardOf, guards, refusesStart, firstWord, begins, starts, ran, goes, ifPasses}
 use Rattle.host.proofs.Laws.{passes-legal}
-use Rattle.claim_box.specs.Demand3.{Harmed, nextWrites, readsIt, spared, HostCall, start, go, hear, heard, left, sparedIf, sparedCall, sparedCalls, Alike, Agrees, AllAgree, none, more, DataChecked, FirstReads, EndsThere, Demand3}
+use Rattle.claim_box.specs.Demand3.{Harmed, nextWrites, readsIt, spared, HostCall, start, go, hear, heard, left, sparedCall, sparedCalls, Alike, Agrees, AllAgree, none, more, DataChecked, FirstReads, EndsThere, Demand3}
 use Rattle.claim_box.proofs.Stepped.{marks-same, w-is, v-is, step-kept, step-broken}
 
 module _ (g : Shape) (n s : ℕ) (x : Area) (c c′ : List ℕ) (harm : Harmed n s x c c′) where
@@ -105,7 +105,7 @@ module _ (g : Shape) (n s : ℕ) (x : Area) (c c′ : List ℕ) (harm : Harmed n
     gone k false r = told NoChain _ _ (alike _ _)
 
     hear-agrees : (k : HostCall) → sparedCall g n x k w ≡ true → Agrees c c′ (hear g k w) (hear g k v)
-    unfolding hear sparedCall sparedIf starts goes
+    unfolding hear sparedCall ifPasses starts goes
     hear-agrees start e = rw guard-same (guarded (guardOf g w) _ _ _ _ (alike h st) (λ p. started (h .channel .going)))
     hear-agrees (go k) e =
         rw guard-same (guarded (guardOf g w) _ _ _ _ (alike h st)
@@ -159,7 +159,7 @@ module _ (g : Shape) (n s : ℕ) (x : Area) (c c′ : List ℕ) (harm : Harmed n
     unfolding goes guards ran
     hears-end = rw (ends-there, checked-ends _ _ struck, guard-same h st, f .passes, was-going _ refl)
 
-    word-ends : EndsThere g x c c′ allowance k (w h st) (v h st)
+    word-ends : EndsThere g x allowance k (w h st) (v h st)
     word-ends = record { until = until; answer = ap (λ (y : Hears). y .answer) hears-end; checked = rw hears-end struck }
 
   -- ---- the demand
@@ -168,6 +168,6 @@ module _ (g : Shape) (n s : ℕ) (x : Area) (c c′ : List ℕ) (harm : Harmed n
   demand-3 = record {
     agrees = λ h st calls e. calls-agree calls _ _ (alike h st) e;
     ends = λ h st calls e allowance k.
-        of-alike (λ (w v : World). FirstReads g n x allowance k w → EndsThere g x c c′ allowance k w v) (word-ends allowance k) _ _
+        of-alike (λ (w v : World). FirstReads g n x allowance k w → EndsThere g x allowance k w v) (word-ends allowance k) _ _
         (calls-left calls _ _ (alike h st) e);
   }

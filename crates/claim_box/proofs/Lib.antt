@@ -1,4 +1,4 @@
--- What is claimed, proved.
+-- What is claimed, proved: figures and limits, demand 3, confinement, and what is pinned.
 pub mod Opened
 pub mod Figures
 pub mod Lost
@@ -6,3 +6,15 @@ pub mod Pinned
 pub mod Reading
 pub mod Stepped
 pub mod Demand3
+pub mod Outside
+pub mod Within
+pub mod Acting
+pub mod Commands
+pub mod Room
+pub mod NextWord
+pub mod Runs
+pub mod Calls
+pub mod Confined
+pub mod Boxes
+pub mod Exports
+pub mod Writes

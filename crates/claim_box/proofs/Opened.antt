@@ -5,7 +5,7 @@ use Rattle.house_check.specs.Check as House
 use Rattle.areas.specs.Areas.{areaCells, readable, areaBytes, rowOf, countsOf, countsAt, readCount, keyCells, keyArea, dataArea, recordCells, endBy, needed, flagOfR0, flagAfter}
 use Rattle.hunt.specs.Hunt.{scan, hunt, countFirst, spotFits, pastIndex, aheadOr, nextRecord, nextId, spacedTo, spaceRecord}
 use Rattle.room.specs.Room.{roomLeft, fits}
-use Rattle.mask.specs.Mask.{isMask, seeksBarred, barsSeek, writesBarred, barsWrite}
+use Rattle.table.specs.Table.{isMask, seeksBarred, barsSeek, writesBarred, barsWrite}
 use Rattle.rows.specs.Rows.{senseOf}
 use Rattle.words.specs.Words.{begunBy, wordAt, testedCommand, testedWord, tested, stored, statusFor, channelFor, programCheck}
 use Rattle.pack.specs.Pack.{packFits, seekTo, seekHead, startOf, trackAt}

@@ -19,8 +19,8 @@ use Rattle.sound.specs.Sound.{Sound}
 use Rattle.sound.specs.Tracks.{homeAndR0}
 use Rattle.sound.proofs.Test.{soundly-sound}
 use Rattle.sound.proofs.Tracks.{sound-tracks}
-use Rattle.claim_damage.specs.Damage.{ownCount, ownData, In, Damaged, any, partNo, sameArea}
-use Rattle.claim_damage.proofs.Areas.{cell-recorded}
+use Rattle.claim_track.specs.Damage.{ownCount, ownData, In, Damaged, any, partNo, sameArea}
+use Rattle.claim_track.proofs.Areas.{cell-recorded}
 use Rattle.claim_box.specs.Reading.{stocked, oneCount, oneData, hurtCount, hurtData, Reading, touches, NotEmpty}
 use Rattle.claim_box.proofs.Opened.{track, box}
 

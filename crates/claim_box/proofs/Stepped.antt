@@ -1,5 +1,5 @@
 -- One command word on a pack and on the pack harmed. Under each head the track is the same or is the harmed one; where the word reads not that area the
--- two turns are one, where it reads it the word ends in Data Check (`claim_damage:Struck`). Then how the channel ends a Data Check.
+-- two turns are one, where it reads it the word ends in Data Check (`claim_track:Struck`). Then how the channel ends a Data Check.
 use Prim.Native.Nat.{ℕ, _+_, _-_, _*_, _<_, _≤_, min}
 use mathlib.Core.Path.{_≡_, refl, sym, ap, ap₂, _∙_, subst}
 use mathlib.Core.Bool.{Bool, true, false, false≢true}
@@ -33,9 +33,9 @@ use Rattle.command.specs.Command.{SelectedOn}
 use Rattle.command.proofs.Turns.{only-writes-lay}
 use Rattle.chain.specs.Step.{under, trackUnder, next, tracksOf, layOn, turnOf, settled, obeyed, stepBy, step, testedReads, wordReads, testedWrites, Legal}
 use Rattle.chain.proofs.Fits.{selected-on, ordered}
-use Rattle.claim_damage.specs.Damage.{any, sameArea}
-use Rattle.claim_damage.proofs.Hurts.{Hurt, damaged-hurt, same-hurt, same-area}
-use Rattle.claim_damage.proofs.Struck.{lies, command-spared, command-struck}
+use Rattle.claim_track.specs.Damage.{any, sameArea}
+use Rattle.claim_track.proofs.Hurts.{Hurt, damaged-hurt, same-hurt, same-area}
+use Rattle.claim_track.proofs.Struck.{lies, command-spared, command-struck}
 use Rattle.claim_box.specs.Demand3.{track, Harmed, nextWrites, isIt, readsIt, Alike, dataCheck, DataChecked}
 
 -- ---- how the channel ends a Data Check: no byte was moved, and the chain is at its end

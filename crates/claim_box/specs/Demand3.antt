@@ -22,9 +22,9 @@ use Rattle.turn.specs.Turn.{withSense, TrackArea}
 use Rattle.channel.specs.Channel.{World, world}
 use Rattle.chain.specs.Step.{next, step, run, wordReads, testedWrites}
 use Rattle.sound.specs.Sound.{Sound}
-use Rattle.claim_damage.specs.Damage.{Own, Damaged, any, sameArea}
+use Rattle.claim_track.specs.Damage.{Own, Damaged, any, sameArea}
 use Rattle.host.specs.declared.{Answer.Answer, Guarded.Guarded}
-use Rattle.host.specs.Host.{Hears, guardOf, starts, goes}
+use Rattle.host.specs.Host.{Hears, guardOf, ifPasses, starts, goes}
 
 -- ---- two packs, alike but for one area of one track
 
@@ -81,13 +81,9 @@ left g [] w = w
 left g (k ∷ ks) w = left g ks (hear g k w .left)
 
 -- no word that ran in these calls was a write, and none read that area; a start and a refused go run none
-unfoldable pub sparedIf : Guarded → Bool → Bool
-sparedIf Guarded.Passes b = b
-sparedIf (Guarded.Answers a) b = true
-
 unfoldable pub sparedCall : Shape → ℕ → Area → HostCall → World → Bool
 sparedCall g n x start w = true
-sparedCall g n x (go k) w = sparedIf (guardOf g w) (spared g n x k w)
+sparedCall g n x (go k) w = ifPasses (guardOf g w) (spared g n x k w)
 
 unfoldable pub sparedCalls : Shape → ℕ → Area → List HostCall → World → Bool
 sparedCalls g n x [] w = true
@@ -136,9 +132,10 @@ pub record FirstReads (g : Shape) (n : ℕ) (x : Area) (allowance k : ℕ) (w : 
   pub reads : readsIt g n x (run g k w) ≡ true
   pub nowrite : nextWrites (run g k w) ≡ false
 
--- then the two runs are alike up to that word, and on the damaged pack the host hears that the chain ended there, with Data Check
-pub record EndsThere (g : Shape) (x : Area) (c c′ : List ℕ) (allowance k : ℕ) (w v : World) : Type 0 where
-  pub until : Alike c c′ (run g k w) (run g k v)
+-- then the two runs are alike up to that word, no cell of either pack changes (nor did one before: `agrees`), and on the damaged pack the host hears that the
+-- chain ended there, with Data Check
+pub record EndsThere (g : Shape) (x : Area) (allowance k : ℕ) (w v : World) : Type 0 where
+  pub until : Alike (w .cells) (v .cells) (run g k w) (run g k v)
   pub answer : goes g allowance v .answer ≡ Answer.ChainEnded
   pub checked : DataChecked x (run g k v) (goes g allowance v .left)
 
@@ -149,4 +146,4 @@ pub record Demand3 (g : Shape) (n : ℕ) (x : Area) (c c′ : List ℕ) : Type 0
       → AllAgree c c′ (heard g calls (world h storage c)) (heard g calls (world h storage c′))
   pub ends : (h : Held) (storage : List ℕ) (calls : List HostCall) → sparedCalls g n x calls (world h storage c) ≡ true
       → (allowance k : ℕ) → FirstReads g n x allowance k (left g calls (world h storage c))
-      → EndsThere g x c c′ allowance k (left g calls (world h storage c)) (left g calls (world h storage c′))
+      → EndsThere g x allowance k (left g calls (world h storage c)) (left g calls (world h storage c′))

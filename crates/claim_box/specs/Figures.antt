@@ -10,7 +10,7 @@ use Rattle.house_check.specs.Check.{cellsWithCheck}
 use Rattle.areas.specs.declared.{Counts.Counts}
 use Rattle.areas.specs.Areas.{r0First, endBy, needed}
 use Rattle.room.specs.Room.{roomLeft, fits}
-use Rattle.mask.specs.Mask.{isMask}
+use Rattle.table.specs.Table.{isMask}
 use Rattle.rows.specs.declared.{Row.Row}
 use Rattle.rows.specs.Rows.{sense}
 use Rattle.words.specs.Words.{addressWord, statusAt}

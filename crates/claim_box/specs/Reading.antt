@@ -22,7 +22,7 @@ use Rattle.host.specs.declared.{Answer.Answer}
 use Rattle.host.specs.Host.{Hears, starts, goes}
 use Rattle.sound.specs.Sound.{Sound}
 use Rattle.sound.specs.Tracks.{trackOf, homeWith, countWith, homeAndR0}
-use Rattle.claim_damage.specs.Damage.{Own, Damaged, any, sameArea}
+use Rattle.claim_track.specs.Damage.{Own, Damaged, any, sameArea}
 use Rattle.claim_box.specs.Figures.{word, storageWith, onePack, statusOf, positionLeft, positionOn}
 
 -- ---- the track: R0 with a key, records 1 and 2 with key and data, record 3 with a key and DL 0

@@ -1,1 +1,1 @@
-// No code: what is claimed of the model, in document 01's words.
+// No code: what is claimed of the box, in document 01's words.

@@ -6,11 +6,10 @@ use mathlib.Core.Bool.{Bool, true, false, true≢false, false≢true}
 use mathlib.Core.List.{List, [], _∷_, _++_}
 use lib.ListN.{getD}
 use lib.Dec.{ltb, eqb}
-use Rattle.table.specs.Table.{isWrite}
+use Rattle.table.specs.Table.{isWrite, isMask}
 use Rattle.cells.specs.Cells.{both}
 use Rattle.cells.proofs.Tests.{pick-all}
 use Rattle.rows.specs.declared.{Row.Row}
-use Rattle.mask.specs.Mask.{isMask}
 use Rattle.areas.specs.declared.{Area.Area, Counts.Counts}
 use Rattle.areas.specs.Areas.{keyArea}
 use Rattle.room.specs.Room.{fits}
@@ -115,7 +114,7 @@ module _ (x : Sight) where
   -- Normal or Unit Exception
   ending-well : (j : Job) → isCheck (endingOf j) ≡ false
   unfolding endingOf isCheck
-  ending-well j = pick-all (λ (e : Ending). isCheck e ≡ false) (both (j .rule .excepts) (eqb (j .counts .dl) 0)) refl refl
+  ending-well j = pick-all (λ (e : Ending). isCheck e ≡ false) (both (j .excepts) (eqb (j .counts .dl) 0)) refl refl
 
   new-keeps : (w : Write) (k : Task) (first : ℕ) (n : Counts) (need : ℕ) (v : List ℕ) → At (Act.Write w) (newTurn x k first n need v)
   unfolding newTurn endTurnAt piece isCheck

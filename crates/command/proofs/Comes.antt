@@ -20,7 +20,7 @@ ReadySighted t (Ready.Acts j) = Sighted t j
 read-sighted : (t : Tracks) (code : ℕ) (r : Rule) (s : Position) (o : Orders) (k : Task) (x : Got) → r ≡ ruleOf code
     → gets (r .names) t (k .head) (k .place) ≡ x → ReadySighted t (hasRead code r s o k x)
 unfolding hasRead
-read-sighted t code r s o k (Sees n) p e = record { rule = p; sees = e }
+read-sighted t code r s o k (Sees n) p e = record { act = ap (λ (x : Rule). x .act) p; names = ap (λ (x : Rule). x .names) p; sees = e }
 read-sighted t code r s o k (Fails row) p e = tt
 
 plan-sighted : (t : Tracks) (code : ℕ) (r : Rule) (s : Position) (o : Orders) (p : Plan) → r ≡ ruleOf code → ReadySighted t (readyBy t code r s o p)
@@ -36,7 +36,7 @@ module _ (t : Tracks) (s : Position) (o : Orders) (code : ℕ) where
   abbrev reads : List TrackArea
   reads = planReads t (ruleOf code) (planOf (ruleOf code) (marksOf t) s o)
 
-  pub job-acts : (j : Job) → Ready.Acts j ≡ readyOf t s o code → (g : Shape) (v : List ℕ) → actTurn g (j .rule .act) (sight t j v) ≡ command g t s o code v
+  pub job-acts : (j : Job) → Ready.Acts j ≡ readyOf t s o code → (g : Shape) (v : List ℕ) → actTurn g (j .act) (sight t j v) ≡ command g t s o code v
   unfolding command ruleTurn readyOf readyTurn
   job-acts j e g v = ap (readyTurn g t s o v reads) e
 

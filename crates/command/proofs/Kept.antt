@@ -100,10 +100,10 @@ module _ (t t′ : Tracks) where
 -- ---- a plan: all that it sees is under its head
 
 module _ (g : Shape) (t t′ : Tracks) (s : Position) (o : Orders) (code : ℕ) (v : List ℕ) where
-  sight-kept : (j : Job) → Agrees t t′ (j .rule .act) (j .task .head) → AllSame t t′ (areasRead t j) → sight t j v ≡ sight t′ j v
+  sight-kept : (j : Job) → Agrees t t′ (j .act) (j .task .head) → AllSame t t′ (areasRead t j) → sight t j v ≡ sight t′ j v
   unfolding sight areasRead
   sight-kept j k e =
-      let A = areas-kept t t′ (j .task .head) (j .task .place) (j .rule .names) e in
+      let A = areas-kept t t′ (j .task .head) (j .task .place) (j .names) e in
       let S = saw-kept t t′ _ e ∙ ap (seenOf t′) A in
       λ i. record { job = j; sent = v; reads = A i; seen = S i; marks = k .marked i; recorded = k .over (j .task .place) (j .counts) i }
 

@@ -10,7 +10,7 @@ use borrow.Author.Tests.{ltb-false}
 use Rattle.cells.specs.Cells.{pick, both}
 use Rattle.cells.proofs.Tests.{pick-all}
 use Rattle.rows.specs.declared.{Row.Row}
-use Rattle.mask.specs.Mask.{barsSeek, barsWrite}
+use Rattle.table.specs.Table.{barsSeek, barsWrite}
 use Rattle.hunt.specs.declared.{Spot.Spot, Next.Next}
 use Rattle.hunt.specs.Hunt.{spotFits, countFirst}
 use Rattle.hunt.proofs.Inside.{NextOn, next-on, id-on}

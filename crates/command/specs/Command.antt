@@ -8,8 +8,6 @@ use lib.ListN.{length, getD, take, drop, replicate}
 use lib.Dec.{ltb, leb, eqb}
 use Rattle.cells.specs.Cells.{pick, both, either, be16, number, part, padded, trackCells, marker, gap, marks}
 use Rattle.rows.specs.declared.{Row.Row, Sense.Sense}
-use Rattle.mask.specs.declared.{Seeking.Seeking}
-use Rattle.mask.specs.Mask.{isMask, barsSeek, barsWrite}
 use Rattle.house_check.specs.Check.{cellsWithCheck}
 use Rattle.areas.specs.declared.{Area.Area, Part.Part, Counts.Counts, CountRead.CountRead}
 use Rattle.areas.specs.Areas.{readable, areaBytes, rowOf, homeArea, homeBytes, r0First, countArea, countsAt, readCount, keyArea, dataArea, recordCells, endBy, needed, flagOfR0, flagAfter}
@@ -24,12 +22,13 @@ use Rattle.pack.specs.Pack.{cylinder, head, seekTo, seekHead}
 use Rattle.held.specs.declared.{Selection.Selection, Position.Position, Orders.Orders}
 use Rattle.held.specs.Held.{noSense}
 use Rattle.format.specs.Format.{recorded, newCounts, newRecord}
-use Rattle.table.specs.declared.{How.How, Licence.Licence, Bar.Bar, Aim.Aim, Names.Names, Control.Control, Write.Write, Act.Act, Rule.Rule}
-use Rattle.table.specs.Table.{ruleOf, looks, servesData, servesKey, isHome}
+use Rattle.table.specs.declared.{How.How, Licence.Licence, Bar.Bar, Aim.Aim, Names.Names, Control.Control, Write.Write, Act.Act, Rule.Rule, Seeking.Seeking}
+use Rattle.table.specs.Table.{ruleOf, looks, servesData, servesKey, isHome, isMask, barsSeek, barsWrite}
 use Rattle.turn.specs.declared.{Ending.Ending}
 use Rattle.turn.specs.Turn.{Tracks, TrackArea, Piece, Moves, None, Gives, Takes, Turn, turn, positionAt, positionSought, ordersOf, after, checkTurn}
 -- Task, where it works: head, place (after its work; of a record the first cell of its count area), selection, tally. Plan: Refuses row, or Works task.
--- Got: Sees counts, or Fails row. Job, a command that has read all that it names: code, rule, position, orders, task, counts. Ready: Refuses row, or Acts job.
+-- Got: Sees counts, or Fails row. Job, a command that has read all that it names: code; of its row act, names, excepts, clears; position, orders, task,
+-- counts. Ready: Refuses row, or Acts job.
 use Rattle.command.specs.declared.{Task.Task, Plan.Plan, Got.Got, Job.Job, Ready.Ready}
 
 -- ==== which record it works on. Of the tracks only the markers are seen
@@ -151,6 +150,10 @@ areasOf Names.Nothing t h c = []
 areasOf Names.HomeAddress t h c = onHead h (homeArea ∷ [])
 areasOf (Names.Count key body) t h c = onHead h (countArea c ∷ namedBy c key body (readCount (t h) c))
 
+-- where a task works: what the command reads, however it ends
+abbrev pub areasAt : Names → Tracks → Task → List TrackArea
+areasAt n t k = areasOf n t (k .head) (k .place)
+
 -- all are checked before any byte moves: the row of the first that is not readable, or else x
 unfoldable pub allRead : Tracks → List TrackArea → Got → Got
 allRead t [] x = x
@@ -217,7 +220,7 @@ pub record Sight : Type 0 where
   pub recorded : Bool
 
 unfoldable pub areasRead : Tracks → Job → List TrackArea
-areasRead t j = areasOf (j .rule .names) t (j .task .head) (j .task .place)
+areasRead t j = areasAt (j .names) t (j .task)
 
 unfoldable pub sight : Tracks → Job → List ℕ → Sight
 sight t j v = record {
@@ -226,13 +229,14 @@ sight t j v = record {
   reads = areasRead t j;
   seen = seenOf t (areasRead t j);
   marks = marks (t (j .task .head));
-  recorded = allRecorded (t (j .task .head)) (goesOver (j .rule .act) (j .task .place) (j .counts));
+  recorded = allRecorded (t (j .task .head)) (goesOver (j .act) (j .task .place) (j .counts));
 }
 
--- the job's row is its code's, all areas that it names were readable, and its counts are those of the count area
+-- the job does and names what its code's row says, all areas that it names were readable, and its counts are those of the count area
 pub record Sighted (t : Tracks) (j : Job) : Type 0 where
-  pub rule : j .rule ≡ ruleOf (j .code)
-  pub sees : gets (j .rule .names) t (j .task .head) (j .task .place) ≡ Got.Sees (j .counts)
+  pub act : j .act ≡ ruleOf (j .code) .act
+  pub names : j .names ≡ ruleOf (j .code) .names
+  pub sees : gets (j .names) t (j .task .head) (j .task .place) ≡ Got.Sees (j .counts)
 
 -- ---- how it ends
 
@@ -241,7 +245,7 @@ failTurn x row = checkTurn (x .job .position) (x .job .orders) (x .reads) row
 
 -- commands but Sense and No-op clear sense first
 unfoldable pub senseAfter : Job → Sense
-senseAfter j = pick (j .rule .clears) noSense (j .position .sense)
+senseAfter j = pick (j .clears) noSense (j .position .sense)
 
 unfoldable pub positionAfter : Job → Task → Position
 positionAfter j k = positionAt (j .position .cylinder) (k .head) (k .place) (senseAfter j)
@@ -259,7 +263,7 @@ endTurn x e m l whole = endTurnAt x (x .job .task) e m l whole
 
 -- DL = 0, where the row says so: Unit Exception
 unfoldable pub endingOf : Job → Ending
-endingOf j = pick (both (j .rule .excepts) (eqb (j .counts .dl) 0)) Ending.Exception Ending.Normal
+endingOf j = pick (both (j .excepts) (eqb (j .counts .dl) 0)) Ending.Exception Ending.Normal
 
 -- ---- 03 No-op
 
@@ -369,7 +373,7 @@ unfoldable pub fieldTurn : How → Sight → List ℕ → Turn
 fieldTurn h x f = endTurn x (pick (satisfied h f (x .sent)) Ending.Satisfied Ending.Normal) (Takes (length f)) [] (wholly h f (x .sent))
 
 unfoldable pub searchTurn : How → Sight → Turn
-searchTurn h x = fieldTurn h x (fieldOf (x .job .rule .names) (x .job .counts) (x .seen))
+searchTurn h x = fieldTurn h x (fieldOf (x .job .names) (x .job .counts) (x .seen))
 
 -- ---- reads: the home address's 5 bytes; of a record the count's 8, key and data where they are named and there
 
@@ -384,7 +388,7 @@ offered (Names.Count key body) counted n x = pick counted (countMoved n) [] ++ (
 
 unfoldable pub readTurn : Bool → Sight → Turn
 readTurn counted x =
-    endTurn x (endingOf (x .job)) (Gives (offered (x .job .rule .names) counted (x .job .counts) (x .seen))) [] false
+    endTurn x (endingOf (x .job)) (Gives (offered (x .job .names) counted (x .job .counts) (x .seen))) [] false
 
 -- ---- writes: missing bytes are zeros, surplus is not fetched. 19, 15 and 1D make all later cells 0
 
@@ -458,7 +462,17 @@ actTurn g (Act.Write w) x = writeTurn w x
 -- ==== the command
 
 abbrev pub jobOf : ℕ → Rule → Position → Orders → Task → Counts → Job
-jobOf code r s o k n = record { code = code; rule = r; position = s; orders = o; task = k; counts = n }
+jobOf code r s o k n = record {
+  code = code;
+  act = r .act;
+  names = r .names;
+  excepts = r .excepts;
+  clears = r .clears;
+  position = s;
+  orders = o;
+  task = k;
+  counts = n;
+}
 
 -- the row that ends it before it acts: one of its plan's, then unreadable; or the job
 unfoldable pub hasRead : ℕ → Rule → Position → Orders → Task → Got → Ready
@@ -472,11 +486,11 @@ readyBy t code r s o (Plan.Works k) = hasRead code r s o k (gets (r .names) t (k
 -- the areas read by then
 unfoldable pub planReads : Tracks → Rule → Plan → List TrackArea
 planReads t r (Plan.Refuses row) = []
-planReads t r (Plan.Works k) = areasOf (r .names) t (k .head) (k .place)
+planReads t r (Plan.Works k) = areasAt (r .names) t k
 
 unfoldable pub readyTurn : Shape → Tracks → Position → Orders → List ℕ → List TrackArea → Ready → Turn
 readyTurn g t s o v reads (Ready.Refuses row) = checkTurn s o reads row
-readyTurn g t s o v reads (Ready.Acts j) = actTurn g (j .rule .act) (sight t j v)
+readyTurn g t s o v reads (Ready.Acts j) = actTurn g (j .act) (sight t j v)
 
 -- by a row of the table
 unfoldable pub ruleTurn : Shape → Tracks → ℕ → Rule → Position → Orders → List ℕ → Turn

@@ -10,6 +10,7 @@ use Rattle.pack.specs.declared.{Head.Head}
 use Rattle.held.specs.declared.{Position.Position}
 use Rattle.table.specs.declared.{Control.Control, Act.Act}
 use Rattle.turn.specs.Turn.{Tracks, TrackArea, Piece}
+-- Plan: Refuses row, or Works task
 use Rattle.command.specs.declared.{Plan.Plan}
 
 -- ---- two cylinders

@@ -5,7 +5,8 @@ use held::Position;
 use held::Selection;
 use pack::Head;
 use rows::Row;
-use table::Rule;
+use table::Act;
+use table::Names;
 
 // Where a command works: the head; the place after its work, which for a record is the first cell of its count area; what it leaves selected; the index
 // tally.
@@ -28,10 +29,14 @@ pub enum Got {
     Fails(Row),
 }
 
-// A command that has read all that it names: its code and row, where the head stood, what it found, where it works, what the count area says there.
+// A command that has read all that it names: its code; of its row what it does, which areas it names, whether DL 0 is Unit Exception, whether sense is
+// cleared; where the head stood, what it found, where it works, what the count area says there.
 pub struct Job {
     pub code: u8,
-    pub rule: Rule,
+    pub act: Act,
+    pub names: Names,
+    pub excepts: bool,
+    pub clears: bool,
     pub position: Position,
     pub orders: Orders,
     pub task: Task,

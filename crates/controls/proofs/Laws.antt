@@ -10,13 +10,12 @@ use lib.Seq.{take-length, getD-drop}
 use Rattle.cells.specs.Cells.{pick, overlay, marks}
 use Rattle.cells.proofs.Laws.{take-min, put-more}
 use Rattle.rows.specs.declared.{Row.Row}
-use Rattle.mask.specs.Mask.{isMask}
 use Rattle.hunt.specs.Hunt.{spaceRecord}
 use Rattle.held.specs.declared.Selection.the-variants.{Nothing}
 use Rattle.held.specs.declared.{Position.Position}
 use Rattle.turn.specs.declared.Ending.the-variants.{Normal}
 use Rattle.table.specs.declared.{Rule.Rule}
-use Rattle.table.specs.Table.{ruleOf, isHome}
+use Rattle.table.specs.Table.{ruleOf, isHome, isMask}
 use Rattle.turn.specs.declared.{Report.Report, Transfer.Transfer}
 use Rattle.turn.specs.Turn.{alone, transferOf, reportOf}
 use Rattle.command.specs.declared.{Job.Job}

@@ -4,7 +4,6 @@ use command::Task;
 use held::Orders;
 use held::Position;
 use held::Selection;
-use mask::Seeking;
 use pack::Cylinder;
 use pack::Head;
 use pack::Shape;
@@ -12,6 +11,7 @@ use pack::Sought;
 use rows::Row;
 use rows::Sense;
 use table::Control;
+use table::Seeking;
 use turn::Ending;
 use turn::Report;
 use turn::Transfer;
@@ -75,8 +75,7 @@ fn arrives(j: Job, x: Sought) -> Report
 {
     match x {
         Sought::To(c, h) => {
-            let task = j.task;
-            let orders = ending::orders_after(j, task, false);
+            let orders = ending::orders_after(j, j.task, false);
             Report {
                 ending: Ending::Normal,
                 transfer: Transfer::Takes(SEEK),
@@ -96,16 +95,13 @@ fn arrives(j: Job, x: Sought) -> Report
 fn seek(g: Shape, k: Seeking, j: Job, sent: &[u8]) -> Report
     ensures { λ r. ⌜ ((t : Tracks) → r ≡ reportOf (seekTurn g k (sight t j (now (sent .entry))))) ⌝ }
 {
-    let cylinder = j.position.cylinder;
-    let x = addressed(g, k, cylinder, sent);
-    arrives(j, x)
+    arrives(j, addressed(g, k, j.position.cylinder, sent))
 }
 
 fn masked(j: Job, byte: u8) -> Report
     ensures { λ r. ⌜ ((t : Tracks) (v : List ℕ) → r ≡ reportOf (maskedTurn (sight t j v) byte)) ⌝ }
 {
-    let task = j.task;
-    let position = ending::position_after(j, task);
+    let position = ending::position_after(j, j.task);
     let orders = Orders {
         mask: byte,
         mask_set: true,
@@ -126,7 +122,7 @@ fn masked(j: Job, byte: u8) -> Report
 fn set_mask(j: Job, byte: u8) -> Report
     ensures { λ r. ⌜ ((t : Tracks) (v : List ℕ) → r ≡ reportOf (maskTurn (sight t j v) byte)) ⌝ }
 {
-    if !mask::is_legal(byte) {
+    if !table::is_mask(byte) {
         return ending::fails(j, Row::BadMask);
     }
     if j.orders.mask_set {

@@ -19,7 +19,7 @@ ghost use Rattle.ending.specs.Ending.{reportAt, checkReport};
 fn sense_after(j: Job) -> Sense
     ensures { λ r. ⌜ r ≡ senseAfter j ⌝ }
 {
-    if j.rule.clears {
+    if j.clears {
         return Sense { byte0: 0, byte1: 0 };
     }
     let position = j.position;
@@ -75,15 +75,14 @@ pub fn ended_at(j: Job, k: Task, ending: Ending, transfer: Transfer, whole: bool
 pub fn ended(j: Job, ending: Ending, transfer: Transfer, whole: bool) -> Report
     ensures { λ r. ⌜ r ≡ reportAt j (j .task) ending transfer whole ⌝ }
 {
-    let task = j.task;
-    ended_at(j, task, ending, transfer, whole)
+    ended_at(j, j.task, ending, transfer, whole)
 }
 
 // DL = 0 is Unit Exception, where the row says so.
 pub fn ending_of(j: Job) -> Ending
     ensures { λ r. ⌜ r ≡ endingOf j ⌝ }
 {
-    if j.rule.excepts {
+    if j.excepts {
         if j.counts.dl == 0 {
             return Ending::Exception;
         }
@@ -115,7 +114,5 @@ pub fn failed(s: Position, o: Orders, row: Row) -> Report
 pub fn fails(j: Job, row: Row) -> Report
     ensures { λ r. ⌜ ((t : Tracks) (v : List ℕ) → r ≡ reportOf (failTurn (sight t j v) row)) ⌝ }
 {
-    let position = j.position;
-    let orders = j.orders;
-    failed(position, orders, row)
+    failed(j.position, j.orders, row)
 }

@@ -5,6 +5,7 @@ use held::Held;
 use libc::STDIN_FILENO;
 use libc::STDOUT_FILENO;
 use pack::Shape;
+use rows::Sense;
 
 fn main() {
     figure_10();
@@ -84,10 +85,18 @@ fn figure_11() {
     // Eight searches and the TICs between them; then a TIC, and the ninth.
     let eighth = host::go(g, started.held, &mut storage, &mut cells, 15);
     io::write_all(STDOUT_FILENO, b"11. The 8th Search ID in a row: ");
-    search_line(eighth.held, &storage);
+    search_line(
+        eighth.held.channel.going,
+        eighth.held.position.sense,
+        &storage,
+    );
     let ninth = host::go(g, eighth.held, &mut storage, &mut cells, 2);
     io::write_all(STDOUT_FILENO, b"11. The 9th Search ID in a row: ");
-    search_line(ninth.held, &storage);
+    search_line(
+        ninth.held.channel.going,
+        ninth.held.position.sense,
+        &storage,
+    );
 }
 
 // Home address, R0 with eight bytes of data, and three records of one byte.
@@ -125,9 +134,8 @@ fn lay_chain(storage: &mut [u8])
     storage[144] = 0xFF;
 }
 
-fn search_line(held: Held, storage: &[u8]) {
-    going_text(held.channel.going);
-    let sense = held.position.sense;
+fn search_line(going: bool, sense: Sense, storage: &[u8]) {
+    going_text(going);
     io::write_all(STDOUT_FILENO, b", sense ");
     io::write_all(STDOUT_FILENO, &hex(cells::pair(sense.byte0, sense.byte1)));
     io::write_all(STDOUT_FILENO, b", status word");

@@ -15,7 +15,7 @@ use Rattle.hunt.specs.declared.Spot.the-variants.{R0, Marker}
 use Rattle.held.specs.declared.{Selection.Selection, Held.Held}
 use Rattle.held.specs.declared.Selection.the-variants.{Nothing, On}
 use Rattle.held.specs.declared.Kept.the-variants.{Holds, Wrong}
-use Rattle.held.specs.Held.{fresh, freshPosition, freshOrders, freshChannel, heldBytes, layout, bit, selectionNo, selectionCell, encoded, InRange, isBit, allZero, isSet, cellFits, encodes, selectionIn, decoded, kept}
+use Rattle.held.specs.Held.{fresh, freshPosition, freshOrders, freshChannel, heldBytes, layout, bit, selectionNo, selectionCell, encoded, InRange, isBit, allZero, isSet, cellFits, flagsFit, selectionEncoded, encodes, selectionIn, decoded, kept}
 
 -- ---- numbers taken apart and put together
 
@@ -50,13 +50,13 @@ is-bit true = refl
 is-bit false = refl
 
 selection-fits : (s : Selection)
-    → both (ltb (selectionNo s) 3) (both (pick (eqb (selectionNo s) 2) true (eqb (selectionCell s / 256 * 256 + selectionCell s % 256) 0)) true) ≡ true
+    → both (both (ltb (selectionNo s) 3) (pick (eqb (selectionNo s) 2) true (eqb (selectionCell s / 256 * 256 + selectionCell s % 256) 0))) true ≡ true
 selection-fits Nothing = refl
 selection-fits (On R0) = refl
 selection-fits (On (Marker p)) = refl
 
 pub encodes-encoded : (h : Held) → encodes (encoded h) ≡ true
-unfolding encodes encoded allZero
+unfolding encodes flagsFit selectionEncoded encoded allZero
 encodes-encoded h = simp is-bit (selection-fits (h .orders .selection))
 
 pub decoded-encoded : (h : Held) → decoded (encoded h) ≡ h
@@ -240,26 +240,26 @@ record Right (v : List ℕ) : Type 0 where
   rest : allZero (drop 24 v) ≡ true
 
 right : (v : List ℕ) → encodes v ≡ true → Right v
-unfolding encodes
+unfolding encodes flagsFit selectionEncoded
 right v e =
     let a = each (eqb (length v) heldBytes) _ e in
     let b = each (eqb (getD v 11 0) layout) _ (a .1) in
-    let c = each (isBit (getD v 0 0)) _ (b .1) in
+    let f = each (flagsFit v) _ (b .1) in
+    let s = each (selectionEncoded v) _ (f .1) in
+    let c = each (isBit (getD v 0 0)) _ (f .0) in
     let d = each (isBit (getD v 3 0)) _ (c .1) in
-    let f = each (isBit (getD v 6 0)) _ (d .1) in
-    let g = each (isBit (getD v 8 0)) _ (f .1) in
-    let n = each (ltb (getD v 10 0) 3) _ (g .1) in
-    let z = each (cellFits v) _ (n .1) in
+    let g = each (isBit (getD v 6 0)) _ (d .1) in
+    let n = each (ltb (getD v 10 0) 3) _ (s .0) in
     record {
       long = eqb-true (length v) heldBytes (a .0);
       numbered = eqb-true (getD v 11 0) layout (b .0);
       bit0 = c .0;
       bit3 = d .0;
-      bit6 = f .0;
-      bit8 = g .0;
+      bit6 = g .0;
+      bit8 = g .1;
       selects = n .0;
-      cell = z .0;
-      rest = z .1;
+      cell = n .1;
+      rest = s .1;
     }
 
 pub encoded-decoded : (v : List ℕ) → Bytes v → encodes v ≡ true → encoded (decoded v) ≡ v

@@ -1,4 +1,4 @@
--- Laws of the held state's bytes: zeros looked at one by one, the tests taken in runs, two stores that make all 64.
+-- Laws of the held state's bytes: zeros looked at one by one, two stores that make all 64.
 use Prim.Native.Nat.{ℕ, _+_, _<_, _≤_}
 use mathlib.Core.Path.{_≡_, refl, sym, ap, _∙_}
 use mathlib.Core.Bool.{Bool, true, false}
@@ -30,17 +30,6 @@ module _ (v : List ℕ) (i : ℕ) where
   pub all-seen : length v ≤ i → allZero (drop i v) ≡ true
   unfolding allZero
   all-seen h = ap allZero (drop-of-length-le v h)
-
--- ---- the tests in runs
-
-pair-first : (a b x : Bool) → both (both a b) x ≡ both a (both b x)
-pair-first true b x = refl
-pair-first false b x = refl
-
-pub by-runs : (v : List ℕ) → encodes v
-    ≡ both (eqb (length v) heldBytes) (both (eqb (getD v 11 0) layout) (both (flagsFit v) (both (selectionEncoded v) (allZero (drop 24 v)))))
-unfolding encodes flagsFit selectionEncoded
-by-runs v = simp pair-first
 
 -- ---- the bytes stored
 

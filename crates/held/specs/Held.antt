@@ -6,7 +6,6 @@ use lib.ListN.{length, getD, drop, replicate}
 use lib.Dec.{ltb, eqb}
 use Rattle.cells.specs.Cells.{pick, both, be16, be24}
 use Rattle.rows.specs.declared.{Sense.Sense}
-use Rattle.rows.specs.Rows.{sense}
 use Rattle.hunt.specs.declared.{Spot.Spot}
 use Rattle.pack.specs.Pack.{cylinder, head}
 -- Position, what survives a chain: cylinder, head, place, sense. Orders, what a command finds: mask, mask_set, before (a code, 0 for none), whole (its
@@ -118,7 +117,7 @@ isSet b = eqb b 1
 abbrev pub cellFits : List ℕ → Bool
 cellFits v = pick (eqb (getD v 10 0) 2) true (eqb (be16 v 12) 0)
 
--- the four flags; the selection, with its cell: runs of the tests below
+-- the four flags; the selection, with its cell
 unfoldable pub flagsFit : List ℕ → Bool
 flagsFit v = both (isBit (getD v 0 0)) (both (isBit (getD v 3 0)) (both (isBit (getD v 6 0)) (isBit (getD v 8 0))))
 
@@ -129,14 +128,7 @@ selectionEncoded v = both (ltb (getD v 10 0) 3) (cellFits v)
 unfoldable pub encodes : List ℕ → Bool
 encodes v =
     both (eqb (length v) heldBytes)
-    (both (eqb (getD v 11 0) layout)
-    (both (isBit (getD v 0 0))
-    (both (isBit (getD v 3 0))
-    (both (isBit (getD v 6 0))
-    (both (isBit (getD v 8 0))
-    (both (ltb (getD v 10 0) 3)
-    (both (cellFits v)
-    (allZero (drop 24 v)))))))))
+    (both (eqb (getD v 11 0) layout) (both (flagsFit v) (both (selectionEncoded v) (allZero (drop 24 v)))))
 
 unfoldable pub selectionIn : List ℕ → Selection
 selectionIn v =
@@ -152,7 +144,7 @@ decoded v = record {
     cylinder = cylinder (be16 v 14);
     head = head (be16 v 16);
     place = be16 v 18;
-    sense = sense (getD v 4 0) (getD v 5 0);
+    sense = record { byte0 = getD v 4 0; byte1 = getD v 5 0 };
   };
   orders = record {
     mask = getD v 2 0;

@@ -10,6 +10,11 @@ ghost use lib.ListN.{length, getD, drop};
 ghost use Rattle.cells.specs.Cells.{pick, be16, overlay, padded, part};
 ghost use Rattle.held.specs.Held.{fresh, rested, heldBytes, bit, selectionNo, selectionCell, encoded, allZero, flagsFit, selectionEncoded, encodes, isSet, selectionIn, be32, decoded, kept};
 
+// The bytes that a host keeps, and the number of their layout.
+const HELD_BYTES: usize = 64;
+
+const LAYOUT: u8 = 1;
+
 // The record selected for the very next command, if one is.
 pub enum Selection {
     Nothing,
@@ -170,10 +175,10 @@ fn selection_fits(bytes: &[u8]) -> bool
 fn encodes_held(bytes: &[u8]) -> bool
     ensures { λ r. ⌜ r ≡ encodes (now (bytes .entry)) ⌝ }
 {
-    if bytes.len() != 64 {
+    if bytes.len() != HELD_BYTES {
         return false;
     }
-    if cells::byte_at(bytes, 11) != 1 {
+    if cells::byte_at(bytes, 11) != LAYOUT {
         return false;
     }
     flags_fit(bytes) && (selection_fits(bytes) && zeros_from(bytes, 24))
@@ -363,7 +368,7 @@ pub fn put(held: &mut [u8], h: Held) -> bool
     ensures { λ r. ⌜ (r ≡ eqb (length (now (held .entry))) heldBytes)
         × (now (held .exit) ≡ pick (eqb (length (now (held .entry))) heldBytes) (encoded h) (now (held .entry))) ⌝ }
 {
-    if held.len() != 64 {
+    if held.len() != HELD_BYTES {
         return false;
     }
     let first = first_bytes(h);

@@ -10,7 +10,6 @@ use lib.Dec.{leb}
 use borrow.Author.Tests.{lt-leb, le-leb}
 use Rattle.cells.specs.Cells.{pick, both, overlay, markAt, marks}
 use Rattle.cells.proofs.Marks.{getD-marks}
-use Rattle.mask.specs.Mask.{isMask}
 use Rattle.words.specs.declared.{Word.Word, Begun.Begun, Cause.Cause, Tested.Tested}
 use Rattle.words.specs.declared.Begun.the-variants.{Begins, Refused}
 use Rattle.words.specs.declared.Tested.the-variants.{Obey, Jump, Bad}
@@ -21,7 +20,7 @@ use Rattle.pack.specs.declared.{Shape.Shape}
 use Rattle.pack.specs.Pack.{packFits, startOf, trackAt}
 use Rattle.pack.proofs.Laws.{lent-is}
 use Rattle.table.specs.declared.{Rule.Rule}
-use Rattle.table.specs.Table.{ruleOf}
+use Rattle.table.specs.Table.{ruleOf, isMask}
 use Rattle.held.specs.declared.{Selection.Selection, Orders.Orders, Held.Held}
 use Rattle.held.specs.declared.Selection.the-variants.{Nothing, On}
 use Rattle.channel.specs.Channel.{World, world}

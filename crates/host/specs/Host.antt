@@ -1,6 +1,6 @@
 -- Document 01, "What the host hears": the answers, the refusals in their order, a start, and going on.
 use Prim.Native.Nat.{ℕ}
-use mathlib.Core.Bool.{true, false}
+use mathlib.Core.Bool.{Bool, true, false}
 use mathlib.Core.List.{[], _∷_}
 use lib.ListN.{length}
 use Rattle.cells.specs.Cells.{pick, overlay}
@@ -52,6 +52,11 @@ wrongHeld g s c = pick (storageFits s) (pick (packFits g c) Answer.BadHeld Answe
 unfoldable pub guards : Guarded → World → Hears → Hears
 guards Guarded.Passes w x = x
 guards (Guarded.Answers a) w x = hears a w
+
+-- what holds of the words of a call that passes: a refused one runs none
+unfoldable pub ifPasses : Guarded → Bool → Bool
+ifPasses Guarded.Passes b = b
+ifPasses (Guarded.Answers a) b = true
 
 -- ---- a start
 

@@ -117,7 +117,7 @@ fn orders_fit(track: &[u16], o: Orders) -> bool
     ensures { λ r. ⌜ r ≡ ordersFit (marks (now (track .entry))) o ⌝ }
 {
     let selection = o.selection;
-    mask::is_legal(o.mask) && (o.tally <= MOST_TALLY && selection_fits(track, o, selection))
+    table::is_mask(o.mask) && (o.tally <= MOST_TALLY && selection_fits(track, o, selection))
 }
 
 // Refusal 4. It looks at one track at most.
@@ -125,19 +125,14 @@ fn held_fits(g: Shape, h: Held, cells: &[u16]) -> bool
     requires { ⌜ WholePack g (now cells) ⌝ }
     ensures { λ r. ⌜ ((s : List ℕ) → r ≡ heldFits g (world h s (now (cells .entry)))) ⌝ }
 {
-    let position = h.position;
-    if !position_fits(g, position) {
+    if !position_fits(g, h.position) {
         return false;
     }
-    let channel = h.channel;
-    if !channel_fits(channel) {
+    if !channel_fits(h.channel) {
         return false;
     }
-    let orders = h.orders;
-    let cylinder = position.cylinder;
-    let head = position.head;
-    let start = pack::start_of(g, cylinder, head);
-    orders_fit(&cells[start..start + cells::TRACK_END as usize], orders)
+    let start = pack::start_of(g, h.position.cylinder, h.position.head);
+    orders_fit(&cells[start..start + cells::TRACK_END as usize], h.orders)
 }
 
 // What bytes that encode no held state are answered: 4, after 2 and 3.

@@ -1,28 +1,42 @@
 -- A word may be put by xor into words that follow it, and be left out. Both ways to work out what is left go over an xor, so they are the same
--- if they are on the 64 powers of two: one computed test for each fold.
-use mathlib.Core.Path.{_≡_, refl, sym, ap, ap₂, _∙_}
+-- if they are on the 64 powers of two: one computed test for each fold, by the table, which antt reads faster than it counts bits.
+use mathlib.Core.Path.{_≡_, refl, sym, ap, ap₂, _∙_, subst}
+use mathlib.Core.Bool.{true}
 use mathlib.Core.List.{List, _++_}
 use Prim.Native.Nat.{ℕ, _*_, _/_, _^_, _<_}
+use lib.Dec.{eqb, lit<}
 use lib.Bits.{bitXor, xor-zero-l, xor-zero-r}
 use Rattle.cells.specs.Cells.{bytesOf}
 use Rattle.house_check.specs.Check.{bitStep, feed, byteBits, bits, check}
+use Rattle.house_check.specs.Table.{remainders, tableStep, tableFeed}
 use Rattle.house_check.specs.Fold.{cellsIn, lowBytes, bytesIn, up, spill, back, spread}
 use Rattle.house_check.proofs.Window.{feed-append}
 use Rattle.house_check.proofs.Bits.{bits-append}
 use Rattle.house_check.proofs.Linear.{zipXor}
+use Rattle.house_check.proofs.Below.{allBelow}
+use Rattle.house_check.proofs.Cells.{bytes-Bytes}
+use Rattle.house_check.proofs.Table.{table-feed}
 use Rattle.house_check.proofs.Words.{low-alone}
 use Rattle.house_check.proofs.Powers.{Linear, Lines, same-word, same-linear, none-linear, shr-linear, up-linear, xor-linear, after, append-lines, lines-after, cells-lines, word-lines, low-lines, check-xor, check-linear}
+
+pub check-low : (v : List ℕ) → check (bytesOf v) ≡ check v
+unfolding check
+check-low v = ap (feed 0) (low-alone v)
+
+by-table : check ≡ (λ v. tableFeed 0 (bytesOf v))
+unfolding check
+by-table = λ i v. (sym (check-low v) ∙ sym (table-feed (bytesOf v) 0 (bytes-Bytes v) (lit< tt))) i
+
+same-checks : (h k : ℕ → List ℕ) → Lines h → Lines k
+    → allBelow 64 (λ n. eqb (tableFeed 0 (bytesOf (h (2 ^ n)))) (tableFeed 0 (bytesOf (k (2 ^ n))))) ≡ true → (x : ℕ) → x < 2 ^ 64 → check (h x) ≡ check (k x)
+same-checks h k H K t =
+    same-word (λ x. check (h x)) (λ x. check (k x)) (check-linear h H) (check-linear k K)
+    (subst (λ (c : List ℕ → ℕ). allBelow 64 (λ n. eqb (c (h (2 ^ n))) (c (k (2 ^ n)))) ≡ true) (sym by-table) t)
 
 -- ---- a word of four cells into the four words after it
 
 five : ℕ → ℕ → ℕ → ℕ → ℕ → List ℕ
 five a b c d w = cellsIn a ++ (cellsIn b ++ (cellsIn c ++ (cellsIn d ++ cellsIn w)))
-
-alone : ℕ → ℕ
-alone x = check (five x 0 0 0 0)
-
-later : ℕ → ℕ
-later x = check (five 0 x (up 48 x) (x / 2 ^ 16) x)
 
 none-cells : Lines (λ x. cellsIn 0)
 none-cells = lines-after cellsIn (λ x. 0) cells-lines none-linear
@@ -32,22 +46,14 @@ five-lines f g h k m F G H K M =
     append-lines f (λ x. g x ++ (h x ++ (k x ++ m x))) F
     (append-lines g (λ x. h x ++ (k x ++ m x)) G (append-lines h (λ x. k x ++ m x) H (append-lines k m K M)))
 
-alone-linear : Linear alone
-unfolding alone five
-alone-linear =
-    check-linear (λ x. five x 0 0 0 0)
+alone-later : (x : ℕ) → x < 2 ^ 64 → check (five x 0 0 0 0) ≡ check (five 0 x (up 48 x) (x / 2 ^ 16) x)
+unfolding five cellsIn bytesOf tableFeed tableStep remainders
+alone-later =
+    same-checks (λ x. five x 0 0 0 0) (λ x. five 0 x (up 48 x) (x / 2 ^ 16) x)
     (five-lines cellsIn (λ x. cellsIn 0) (λ x. cellsIn 0) (λ x. cellsIn 0) (λ x. cellsIn 0) cells-lines none-cells none-cells none-cells none-cells)
-
-later-linear : Linear later
-unfolding later five
-later-linear =
-    check-linear (λ x. five 0 x (up 48 x) (x / 2 ^ 16) x)
     (five-lines (λ x. cellsIn 0) cellsIn (λ x. cellsIn (up 48 x)) (λ x. cellsIn (x / 2 ^ 16)) cellsIn none-cells cells-lines
     (lines-after cellsIn (up 48) cells-lines (up-linear 48)) (lines-after cellsIn (λ x. x / 2 ^ 16) cells-lines (shr-linear 16)) cells-lines)
-
-alone-later : (x : ℕ) → x < 2 ^ 64 → alone x ≡ later x
-unfolding alone later five cellsIn check bits byteBits feed bitStep
-alone-later x h = same-word alone later alone-linear later-linear refl x h
+    refl
 
 five-xor : (a b c d w a′ b′ c′ d′ w′ : ℕ)
     → five (bitXor a a′) (bitXor b b′) (bitXor c c′) (bitXor d d′) (bitXor w w′) ≡ zipXor (five a b c d w) (five a′ b′ c′ d′ w′)
@@ -68,7 +74,7 @@ check-more u v = ap (feed 0) (bits-append u v) ∙ feed-append (bits u) (bits v)
 pub folds : (a b c d w : ℕ) → a < 2 ^ 64
     → check (cellsIn (bitXor b a) ++ (cellsIn (bitXor c (up 48 a)) ++ (cellsIn (bitXor d (a / 2 ^ 16)) ++ cellsIn (bitXor w a))))
     ≡ feed (check (cellsIn a ++ (cellsIn b ++ (cellsIn c ++ cellsIn d)))) (bits (cellsIn w))
-unfolding alone later five cellsIn
+unfolding five cellsIn
 folds a b c d w h =
     let others : List ℕ = five 0 b c d w in
     sym (cells-before (cellsIn (bitXor b a) ++ (cellsIn (bitXor c (up 48 a)) ++ (cellsIn (bitXor d (a / 2 ^ 16)) ++ cellsIn (bitXor w a)))))
@@ -107,23 +113,11 @@ module _ (s : ℕ) where
 none-bytes : Lines (λ x. bytesIn 0)
 none-bytes = lines-after bytesIn (λ x. 0) word-lines none-linear
 
-whole : ℕ → ℕ
-whole x = check (bytesIn x ++ bytesIn 0)
-
-whole-linear : Linear whole
-unfolding whole
-whole-linear = check-linear (λ x. bytesIn x ++ bytesIn 0) (append-lines bytesIn (λ x. bytesIn 0) word-lines none-bytes)
-
-onward : ℕ → ℕ
-onward x = check (bytesIn (spread 4 x))
-
-onward-linear : Linear onward
-unfolding onward
-onward-linear = check-linear (λ x. bytesIn (spread 4 x)) (lines-after bytesIn (spread 4) word-lines (spread-linear 4))
-
-whole-onward : (x : ℕ) → x < 2 ^ 64 → whole x ≡ onward x
-unfolding whole onward spread back spill bytesIn lowBytes check bits byteBits feed bitStep
-whole-onward x h = same-word whole onward whole-linear onward-linear refl x h
+whole-onward : (x : ℕ) → x < 2 ^ 64 → check (bytesIn x ++ bytesIn 0) ≡ check (bytesIn (spread 4 x))
+unfolding spread back spill bytesIn lowBytes bytesOf tableFeed tableStep remainders
+whole-onward =
+    same-checks (λ x. bytesIn x ++ bytesIn 0) (λ x. bytesIn (spread 4 x)) (append-lines bytesIn (λ x. bytesIn 0) word-lines none-bytes)
+    (lines-after bytesIn (spread 4) word-lines (spread-linear 4)) refl
 
 -- zeros in front make no difference
 bytes-before : (v : List ℕ) → check (bytesIn 0 ++ v) ≡ check v
@@ -136,11 +130,11 @@ two-xor x y x′ y′ = λ i. word-lines .xor x x′ i ++ word-lines .xor y y′
 
 -- the first eight of sixteen bytes
 pub spreads : (x y : ℕ) → x < 2 ^ 64 → check (bytesIn (bitXor y (spread 4 x))) ≡ check (bytesIn x ++ bytesIn y)
-unfolding whole onward bytesIn lowBytes
+unfolding bytesIn lowBytes
 spreads x y h =
     check-linear bytesIn word-lines y (spread 4 x)
     ∙ ap (bitXor (check (bytesIn y))) (sym (whole-onward x h))
-    ∙ ap (λ (n : ℕ). bitXor n (whole x)) (sym (bytes-before (bytesIn y)))
+    ∙ ap (λ (n : ℕ). bitXor n (check (bytesIn x ++ bytesIn 0))) (sym (bytes-before (bytesIn y)))
     ∙ sym (check-xor (bytesIn 0 ++ bytesIn y) (bytesIn x ++ bytesIn 0) refl)
     ∙ ap check (sym (two-xor 0 y x 0))
     ∙ (λ i. check (bytesIn (xor-zero-l x i) ++ bytesIn (xor-zero-r y i)))
@@ -149,25 +143,16 @@ spreads x y h =
 half : ℕ → ℕ
 half x = bitXor x (spread 2 (x / 2 ^ 32))
 
-onwardHalf : ℕ → ℕ
-onwardHalf x = check (lowBytes (half x))
-
 half-linear : Linear half
 unfolding half
 half-linear =
     xor-linear (λ x. x) (λ x. spread 2 (x / 2 ^ 32)) same-linear (after (spread 2) (λ x. x / 2 ^ 32) (spread-linear 2) (shr-linear 32))
 
 pub spreads-half : (x : ℕ) → x < 2 ^ 64 → check (lowBytes (bitXor x (spread 2 (x / 2 ^ 32)))) ≡ check (bytesIn x)
-unfolding onwardHalf half spread back spill bytesIn lowBytes check bits byteBits feed bitStep
-spreads-half x h =
-    same-word onwardHalf (λ x. check (bytesIn x)) (check-linear (λ x. lowBytes (half x)) (lines-after lowBytes half low-lines half-linear))
-    (check-linear bytesIn word-lines) refl x h
+unfolding half spread back spill bytesIn lowBytes bytesOf tableFeed tableStep remainders
+spreads-half = same-checks (λ x. lowBytes (half x)) bytesIn (lines-after lowBytes half low-lines half-linear) word-lines refl
 
 -- ---- sixteen cells by their sixteen bytes
-
-pub check-low : (v : List ℕ) → check (bytesOf v) ≡ check v
-unfolding check
-check-low v = ap (feed 0) (low-alone v)
 
 pub last-four : (a b c d x y p q : ℕ) → x < 2 ^ 64 → bitXor y p < 2 ^ 64
     → bits (bytesIn x) ≡ bits (cellsIn a ++ cellsIn b) → bits (bytesIn y) ≡ bits (cellsIn c ++ cellsIn d)

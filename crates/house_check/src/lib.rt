@@ -10,14 +10,25 @@ ghost use Rattle.house_check.specs.Check.{checkBytes, goodCells, bitStep
 ghost use Rattle.house_check.specs.Table.{remainders, tableFeed};
 ghost use Rattle.house_check.specs.Fold.{cellsIn, rest, lowBytes, bytesIn, spread};
 
+// The polynomial, without the bit that leaves the register; that bit, in the register; the bits of a byte; the cells of a word; an area's check bytes.
+const POLYNOMIAL: u16 = 0x1021;
+
+const TOP_BIT: u16 = 0x8000;
+
+const BYTE_BITS: usize = 8;
+
+const WORD_CELLS: usize = 4;
+
+const CHECK_BYTES: usize = 2;
+
 // ---- bit by bit
 
 // A zero bit into the register.
 fn shift(r: u16) -> u16
     ensures { λ x. ⌜ x ≡ bitStep r 0 ⌝ }
 {
-    if r >= 0x8000 {
-        return (r << 1) ^ 0x1021;
+    if r >= TOP_BIT {
+        return (r << 1) ^ POLYNOMIAL;
     }
     r << 1
 }
@@ -28,7 +39,7 @@ fn byte_in(r: u16, cell: u16) -> u16
 {
     let mut x = r ^ (cell % 256 * 256);
     let mut k: usize = 0;
-    while k < 8 {
+    while k < BYTE_BITS {
         x = shift(x);
         k += 1;
     }
@@ -167,9 +178,9 @@ fn by_folding(cells: &[u16]) -> u16
         c: 0,
         d: 0,
     };
-    while 4 <= n - at {
+    while WORD_CELLS <= n - at {
         s = fold(s, word(cells, at));
-        at += 4;
+        at += WORD_CELLS;
     }
     ended(s, &cells[at..])
 }
@@ -215,7 +226,7 @@ fn clean(cells: &[u16]) -> bool
 pub fn good(cells: &[u16]) -> bool
     ensures { λ r. ⌜ r ≡ goodCells (length (now (cells .entry)) - checkBytes) (now (cells .entry)) ⌝ }
 {
-    2 <= cells.len() && clean(cells)
+    CHECK_BYTES <= cells.len() && clean(cells)
 }
 
 // The remainder of each byte.

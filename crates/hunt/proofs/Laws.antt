@@ -49,8 +49,8 @@ up : (t : List ℕ) (n p : ℕ) → n + p ≡ 7 → 7 ≤ length t → hunt (mar
 up t zero p e h = ap (hunt (marks t)) (sym (zero-add p) ∙ e)
 up t (suc n) p e h = low-on t p (omega arith) h ∙ up t n (suc p) (omega arith) h
 
-pub hunt-seven : (t : List ℕ) (p : ℕ) → 7 ≤ length t → hunt (marks t) p ≡ hunt (marks t) (max p 7)
-hunt-seven t p h = go (decLt p 7)
+pub hunt-first : (t : List ℕ) (p : ℕ) → 7 ≤ length t → hunt (marks t) p ≡ hunt (marks t) (max p 7)
+hunt-first t p h = go (decLt p 7)
   where
     go : Dec (p < 7) → hunt (marks t) p ≡ hunt (marks t) (max p 7)
     go (yes k) = up t (7 - p) p (omega arith) h ∙ ap (hunt (marks t)) (omega arith)

@@ -1,7 +1,7 @@
 // The hunt for the next record on a track, by its markers.
 ghost use mathlib.Core.Path.{_≡_};
 ghost use Prim.Native.Nat.{max, _≤_};
-ghost use Rattle.cells.specs.Cells.{marks, markAt};
+ghost use Rattle.cells.specs.Cells.{firstMarker, marks, markAt};
 ghost use Rattle.hunt.specs.Hunt.{WholeTrack, markerless, hunt, countFirst, nextRecord, nextId, spaceRecord};
 
 // The first cell of R0.
@@ -36,10 +36,14 @@ pub fn is_marker(track: &[u16], at: u16) -> bool
 }
 
 // The first cell at or after a place that can hold a marker.
-fn from_seven(place: u16) -> u16
-    ensures { λ r. ⌜ r ≡ max place 7 ⌝ }
+fn from_first(place: u16) -> u16
+    ensures { λ r. ⌜ r ≡ max place firstMarker ⌝ }
 {
-    if place < 7 { 7 } else { place }
+    if place < cells::FIRST_MARKER {
+        cells::FIRST_MARKER
+    } else {
+        place
+    }
 }
 
 // Whether none of some cells holds a marker. There is no early end, so that the compiler can look at eight cells at once.
@@ -78,7 +82,7 @@ pub fn next_marker(track: &[u16], place: u16) -> Found
     requires { ⌜ WholeTrack (now track) ⌝ }
     ensures { λ r. ⌜ r ≡ hunt (marks (now (track .entry))) place ⌝ }
 {
-    let mut i = pass_over(track, from_seven(place));
+    let mut i = pass_over(track, from_first(place));
     while i < cells::TRACK_END {
         if track[i as usize] == cells::MARKER {
             return Found::At(i);

@@ -13,6 +13,9 @@ const AREA_NUMBERS: usize = 2;
 
 const LAST_PART: u8 = 3;
 
+// What cells that are no track are answered.
+const NO_TRACK: u16 = 65535;
+
 // The cell that holds a marker, that there is none from a place on, or that these cells are no track.
 pub enum Marked {
     Cell(u16),
@@ -48,7 +51,7 @@ fn marked_number(m: Marked) -> u16
     match m {
         Marked::Cell(p) => p,
         Marked::NoMarker => cells::TRACK_END,
-        Marked::NoTrack => 65535,
+        Marked::NoTrack => NO_TRACK,
     }
 }
 

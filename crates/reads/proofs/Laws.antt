@@ -2,6 +2,7 @@
 use Prim.Native.Nat.{ℕ, zero, suc, _+_, _-_, _<_, _≤_, min}
 use mathlib.Core.Path.{_≡_, refl, sym, ap, ap₂, _∙_, subst}
 use mathlib.Core.List.{List, [], _∷_, _++_}
+use native.Mathlib.Nat.{min-comm, min-eq-left, min-zero}
 use native.Mathlib.Omega.{arith}
 use native.Mathlib.Decide.{decLt, decLe}
 use lib.ListN.{length, getD, take, drop, set, length-take, length-drop, length-append}
@@ -11,7 +12,7 @@ use Rattle.cells.proofs.Laws.{length-bytesOf, getD-bytesOf, take-bytesOf, drop-
 use Rattle.areas.specs.declared.{Area.Area, Counts.Counts}
 use Rattle.areas.specs.Areas.{keyArea, dataArea}
 use Rattle.turn.specs.Turn.{filled}
-use Rattle.reads.specs.declared.{Rest.Rest, Parts.Parts}
+use Rattle.reads.specs.declared.{Filling.Filling, Parts.Parts}
 use Rattle.reads.specs.Inside.{LieIf, portion, Puts, start, recordGiven}
 
 -- ---- cells of the track
@@ -54,7 +55,13 @@ drop-append (suc k) (a ∷ x) y =
 
 -- ---- the cells of a part that are put
 
-module _ (t : List ℕ) (first n : ℕ) (l : List ℕ) (r : Rest) (h : LieIf t first n) (skip m : ℕ) (p : skip ≡ min (r .from) n)
+less : (from n : ℕ) → n - min from n ≡ n - from
+less from n = omega arith
+
+none : (from n : ℕ) → (from ≤ n → ⊥) → n - from ≡ 0
+none from n k = omega arith
+
+module _ (t : List ℕ) (first n : ℕ) (l : List ℕ) (r : Filling) (h : LieIf t first n) (skip m : ℕ) (p : skip ≡ min (r .from) n)
     (q : m ≡ min (n - skip) (length l - r .at)) where
   pub rest-lies : LieIf t (first + skip) m
   rest-lies = record { ends = λ k. omega (arith, h .ends (omega arith)) }
@@ -62,15 +69,14 @@ module _ (t : List ℕ) (first n : ℕ) (l : List ℕ) (r : Rest) (h : LieIf t f
   same-cells : take m (drop (first + skip) t) ≡ take (min (length l - r .at) (n - r .from)) (drop (first + r .from) t)
   same-cells = go (decLe (r .from) n)
     where
+      e : m ≡ min (length l - r .at) (n - r .from)
+      e = q ∙ min-comm (n - skip) (length l - r .at) ∙ ap (min (length l - r .at)) (ap (_-_ n) p ∙ less (r .from) n)
+
       go : Dec (r .from ≤ n) → take m (drop (first + skip) t) ≡ take (min (length l - r .at) (n - r .from)) (drop (first + r .from) t)
-      go (yes k) =
-          let e : m ≡ min (length l - r .at) (n - r .from) = omega arith in
-          let f : first + skip ≡ first + r .from = omega arith in
-          ap₂ (λ (x y : ℕ). take x (drop y t)) e f
+      go (yes k) = ap₂ (λ (x y : ℕ). take x (drop y t)) e (ap (_+_ first) (p ∙ min-eq-left k))
       go (no k) =
-          let e : m ≡ 0 = omega arith in
-          let f : 0 ≡ min (length l - r .at) (n - r .from) = omega arith in
-          ap (λ (x : ℕ). take x (drop (first + skip) t)) e ∙ ap (λ (x : ℕ). take x (drop (first + r .from) t)) f
+          let z = ap (min (length l - r .at)) (none (r .from) n k) ∙ min-zero (length l - r .at) in
+          ap (λ (x : ℕ). take x (drop (first + skip) t)) (e ∙ z) ∙ sym (ap (λ (x : ℕ). take x (drop (first + r .from) t)) z)
 
   run-portion : bytesOf (part t (first + skip) m) ≡ portion l r (bytesOf (part t first n))
   unfolding part
@@ -82,7 +88,7 @@ module _ (t : List ℕ) (first n : ℕ) (l : List ℕ) (r : Rest) (h : LieIf t f
       ∙ ap (λ (x : List ℕ). take room (bytesOf x)) (sym (drop-take (r .from) n (drop first t)))
       ∙ ap (take room) (sym (drop-bytesOf (r .from) (take n (drop first t))))
 
-  pub run-puts : (out : List ℕ) (x : Rest) → out ≡ overlay l (r .at) (bytesOf (part t (first + skip) m)) → x .at ≡ r .at + m → x .from ≡ r .from - skip
+  pub run-puts : (out : List ℕ) (x : Filling) → out ≡ overlay l (r .at) (bytesOf (part t (first + skip) m)) → x .at ≡ r .at + m → x .from ≡ r .from - skip
       → Puts l r (bytesOf (part t first n)) out x
   run-puts out x b c d = record {
     bytes = b ∙ ap (overlay l (r .at)) run-portion;
@@ -92,7 +98,7 @@ module _ (t : List ℕ) (first n : ℕ) (l : List ℕ) (r : Rest) (h : LieIf t f
 
 -- ---- one part behind another
 
-module _ (l : List ℕ) (r : Rest) (a mid : List ℕ) (x : Rest) (h : r .at ≤ length l) (p : Puts l r a mid x) where
+module _ (l : List ℕ) (r : Filling) (a mid : List ℕ) (x : Filling) (h : r .at ≤ length l) (p : Puts l r a mid x) where
   room : length (portion l r a) ≤ length l - r .at
   room = omega (arith, length-take (length l - r .at) (drop (r .from) a))
 
@@ -102,7 +108,7 @@ module _ (l : List ℕ) (r : Rest) (a mid : List ℕ) (x : Rest) (h : r .at ≤ 
   pub next-fits : x .at ≤ length mid
   next-fits = omega (arith, same-length, room, p .next)
 
-  pub puts-both : (b out : List ℕ) (y : Rest) → Puts mid x b out y → Puts l r (a ++ b) out y
+  pub puts-both : (b out : List ℕ) (y : Filling) → Puts mid x b out y → Puts l r (a ++ b) out y
   puts-both b out y q =
       let n = length l - r .at in
       let u = drop (r .from) a in
@@ -128,7 +134,7 @@ lies-by t f g m n p q h = record { ends = λ k. omega (arith, h .ends (omega ari
 
 module _ (t : List ℕ) (s : Parts) (c : ℕ) (n : Counts) (k d : Area) (x y z : ℕ) (p : x ≡ pick (s .counted) 8 0) (q : k ≡ keyArea c n)
     (u : y ≡ pick (s .key) (n .kl) 0) (v : d ≡ dataArea c n) (w : z ≡ pick (s .body) (n .dl) 0) where
-  pub puts-record : (l m o out : List ℕ) (r a b e : Rest) → r .at ≤ length l → Puts l r (bytesOf (part t (c + 1) x)) m a
+  pub puts-record : (l m o out : List ℕ) (r a b e : Filling) → r .at ≤ length l → Puts l r (bytesOf (part t (c + 1) x)) m a
       → Puts m a (bytesOf (part t (k .first) y)) o b → Puts o b (bytesOf (part t (d .first) z)) out e
       → Puts l r (recordGiven t s c n) out e
   puts-record l m o out r a b e h f g i =
@@ -143,8 +149,8 @@ pub none-put : (l : List ℕ) (from : ℕ) → l ≡ filled l from []
 unfolding filled
 none-put l from = sym (ap (λ (v : List ℕ). overlay l 0 (take (length l) v)) (drop-nil from) ∙ ap (overlay l 0) (take-nil (length l)) ∙ overlay-none l 0)
 
-pub all-put : (l : List ℕ) (from : ℕ) (v out : List ℕ) (r x : Rest) → r ≡ start from → Puts l r v out x → out ≡ filled l from v
+pub all-put : (l : List ℕ) (from : ℕ) (v out : List ℕ) (r x : Filling) → r ≡ start from → Puts l r v out x → out ≡ filled l from v
 unfolding filled
 all-put l from v out r x e p =
     let f : length l - 0 ≡ length l = omega arith in
-    p .bytes ∙ ap (λ (s : Rest). overlay l (s .at) (portion l s v)) e ∙ ap (λ (k : ℕ). overlay l 0 (take k (drop from v))) f
+    p .bytes ∙ ap (λ (s : Filling). overlay l (s .at) (portion l s v)) e ∙ ap (λ (k : ℕ). overlay l 0 (take k (drop from v))) f

@@ -19,7 +19,7 @@ use Rattle.turn.specs.declared.{Transfer.Transfer}
 use Rattle.turn.specs.Turn.{Tracks, given, transferOf, filled, reportOf}
 use Rattle.command.specs.declared.{Job.Job}
 use Rattle.ending.specs.Ending.{reportAt}
-use Rattle.reads.specs.declared.{Rest.Rest}
+use Rattle.reads.specs.declared.{Filling.Filling}
 use Rattle.reads.specs.Inside.{LieIf, LieAll, Puts, start, countGiven, keyGiven, bodyGiven, parts, bytesGiven, manyGiven}
 use Rattle.reads.proofs.Laws.{long, all-put, none-put}
 
@@ -117,7 +117,7 @@ module _ (t : Tracks) (j : Job) (s : Sighted t j) where
   abbrev on : List ℕ
   on = t (j .task .head)
 
-  sees-by : (m : Names) → j .rule .names ≡ m → gets m t (j .task .head) (j .task .place) ≡ Sees (j .counts)
+  sees-by : (m : Names) → j .names ≡ m → gets m t (j .task .head) (j .task .place) ≡ Sees (j .counts)
   sees-by m p = ap (λ (x : Names). gets x t (j .task .head) (j .task .place)) (sym p) ∙ s .sees
 
   gives-at : (m : Names) → gets m t (j .task .head) (j .task .place) ≡ Sees (j .counts) → (counted : Bool)
@@ -132,32 +132,32 @@ module _ (t : Tracks) (j : Job) (s : Sighted t j) where
       ++ (key-is t (j .task .head) c counted key body n e i ++ body-is t (j .task .head) c counted key body n e i))
 
   pub gives-these : (counted : Bool)
-      → offered (j .rule .names) counted (j .counts) (seenOf t (areasRead t j)) ≡ bytesGiven on counted (j .rule .names) (j .task .place) (j .counts)
+      → offered (j .names) counted (j .counts) (seenOf t (areasRead t j)) ≡ bytesGiven on counted (j .names) (j .task .place) (j .counts)
   unfolding areasRead
-  gives-these = gives-at (j .rule .names) (s .sees)
+  gives-these = gives-at (j .names) (s .sees)
 
   -- they lie on the track
-  pub home-on : j .rule .names ≡ Names.HomeAddress → LieIf on 0 5
+  pub home-on : j .names ≡ Names.HomeAddress → LieIf on 0 5
   home-on p = record { ends = λ _. omega (arith, home-lies t (j .task .head) (j .task .place) (j .counts) (sees-by _ p)) }
 
-  pub record-on : (counted key body : Bool) → j .rule .names ≡ Names.Count key body → LieAll on (parts counted key body) (j .task .place) (j .counts)
+  pub record-on : (counted key body : Bool) → j .names ≡ Names.Count key body → LieAll on (parts counted key body) (j .task .place) (j .counts)
   record-on counted key body p = record-lies t (j .task .head) (j .task .place) counted key body (j .counts) (sees-by _ p)
 
   -- these bytes put into lent ones are those that the read gives
   module _ (counted : Bool) (v : List ℕ) where
-    given-are : given (readTurn counted (sight t j v) .moves) ≡ bytesGiven on counted (j .rule .names) (j .task .place) (j .counts)
+    given-are : given (readTurn counted (sight t j v) .moves) ≡ bytesGiven on counted (j .names) (j .task .place) (j .counts)
     unfolding given readTurn endTurn endTurnAt sight
     given-are = gives-these counted
 
-    module _ (m : Names) (p : j .rule .names ≡ m) (l : List ℕ) (from : ℕ) where
+    module _ (m : Names) (p : j .names ≡ m) (l : List ℕ) (from : ℕ) where
       filled-by : filled l from (bytesGiven on counted m (j .task .place) (j .counts)) ≡ filled l from (given (readTurn counted (sight t j v) .moves))
       filled-by = ap (λ (x : Names). filled l from (bytesGiven on counted x (j .task .place) (j .counts))) (sym p) ∙ ap (filled l from) (sym given-are)
 
-      pub puts-given : (out : List ℕ) (r x : Rest) → r ≡ start from → Puts l r (bytesGiven on counted m (j .task .place) (j .counts)) out x
+      pub puts-given : (out : List ℕ) (r x : Filling) → r ≡ start from → Puts l r (bytesGiven on counted m (j .task .place) (j .counts)) out x
           → out ≡ filled l from (given (readTurn counted (sight t j v) .moves))
       puts-given out r x e q = all-put l from _ out r x e q ∙ filled-by
 
-    pub gives-none : j .rule .names ≡ Names.Nothing → (l : List ℕ) (from : ℕ) → l ≡ filled l from (given (readTurn counted (sight t j v) .moves))
+    pub gives-none : j .names ≡ Names.Nothing → (l : List ℕ) (from : ℕ) → l ≡ filled l from (given (readTurn counted (sight t j v) .moves))
     unfolding bytesGiven
     gives-none p l from = none-put l from ∙ filled-by Names.Nothing p l from
 
@@ -174,7 +174,7 @@ module _ (t : List ℕ) (c : ℕ) (counted : Bool) (n : Counts) where
       omega (arith, length-append x (y ++ z), length-append y z, long t _ _ (h .count), long t _ _ (h .key), long t _ _ (h .body))
 
 module _ (t : Tracks) (j : Job) (s : Sighted t j) (counted : Bool) where
-  many-are : (m : Names) → j .rule .names ≡ m
+  many-are : (m : Names) → j .names ≡ m
       → length (bytesGiven (t (j .task .head)) counted m (j .task .place) (j .counts)) ≡ manyGiven counted m (j .counts)
   unfolding bytesGiven manyGiven
   many-are Names.Nothing p = refl
@@ -182,7 +182,7 @@ module _ (t : Tracks) (j : Job) (s : Sighted t j) (counted : Bool) where
   many-are (Names.Count key body) p = record-many _ _ counted (j .counts) key body (record-on t j s counted key body p)
 
   pub told-are : (v : List ℕ)
-      → reportAt j (j .task) (endingOf j) (Transfer.Gives (manyGiven counted (j .rule .names) (j .counts))) false ≡ reportOf (readTurn counted (sight t j v))
+      → reportAt j (j .task) (endingOf j) (Transfer.Gives (manyGiven counted (j .names) (j .counts))) false ≡ reportOf (readTurn counted (sight t j v))
   unfolding reportOf transferOf readTurn endTurn endTurnAt sight reportAt
   told-are v =
-      ap (λ (m : ℕ). reportAt j (j .task) (endingOf j) (Transfer.Gives m) false) (sym (ap length (gives-these t j s counted) ∙ many-are (j .rule .names) refl))
+      ap (λ (m : ℕ). reportAt j (j .task) (endingOf j) (Transfer.Gives m) false) (sym (ap length (gives-these t j s counted) ∙ many-are (j .names) refl))

@@ -9,8 +9,8 @@ use Rattle.areas.specs.declared.{Counts.Counts}
 use Rattle.areas.specs.Areas.{homeBytes, keyArea, dataArea}
 use Rattle.recording.specs.Recording.{countSent}
 use Rattle.table.specs.declared.{Names.Names}
--- Rest: at, where the next byte goes; from, how many bytes are left out before it. Parts, which are given: counted, key, body.
-use Rattle.reads.specs.declared.{Rest.Rest, Parts.Parts}
+-- Filling: at, where the next byte goes; from, how many bytes are left out before it. Parts, which are given: counted, key, body.
+use Rattle.reads.specs.declared.{Filling.Filling, Parts.Parts}
 
 -- so many bytes from a cell on lie on the track, if there are any
 pub record LieIf (t : List ℕ) (first n : ℕ) : Type 0 where
@@ -19,17 +19,17 @@ pub record LieIf (t : List ℕ) (first n : ℕ) : Type 0 where
 -- ---- bytes put into lent ones
 
 -- of the bytes v, those that are not left out and find room
-abbrev pub portion : List ℕ → Rest → List ℕ → List ℕ
+abbrev pub portion : List ℕ → Filling → List ℕ → List ℕ
 portion l r v = take (length l - r .at) (drop (r .from) v)
 
 -- .. were put there; where the next go, and how many of them are left out
-pub record Puts (old : List ℕ) (r : Rest) (v : List ℕ) (new : List ℕ) (x : Rest) : Type 0 where
+pub record Puts (old : List ℕ) (r : Filling) (v : List ℕ) (new : List ℕ) (x : Filling) : Type 0 where
   pub bytes : new ≡ overlay old (r .at) (portion old r v)
   pub next : x .at ≡ r .at + length (portion old r v)
   pub left : x .from ≡ r .from - length v
 
 -- all are still to be put, from one on
-abbrev pub start : ℕ → Rest
+abbrev pub start : ℕ → Filling
 start from = record { at = 0; from = from }
 
 -- ---- where the bytes that a read gives lie, of the record whose count area is at c

@@ -23,7 +23,7 @@ const FLAG: u32 = 1;
 const COUNT_SENT: u16 = 8;
 
 // Where the next byte goes, and how many bytes are left out before it.
-struct Rest {
+struct Filling {
     at: usize,
     from: usize,
 }
@@ -55,7 +55,7 @@ fn put_cells(track: &[u16], first: usize, into: &mut [u8], at: usize, m: usize)
 }
 
 // The bytes of so many cells, but those left out, as many as find room.
-fn put(track: &[u16], first: u32, n: u16, r: Rest, into: &mut [u8]) -> Rest
+fn put(track: &[u16], first: u32, n: u16, r: Filling, into: &mut [u8]) -> Filling
     requires { ⌜ LieIf (now track) first n × (r .at ≤ length (now into)) ⌝ }
     ensures { λ x. ⌜ Puts (now (into .entry)) r (bytesOf (part (now (track .entry)) first n)) (now (into .exit)) x ⌝ }
 {
@@ -63,14 +63,14 @@ fn put(track: &[u16], first: u32, n: u16, r: Rest, into: &mut [u8]) -> Rest
     let skip = cells::lesser(r.from, n as usize);
     let m = cells::lesser(n as usize - skip, into.len() - at);
     put_cells(track, first as usize + skip, into, at, m);
-    Rest {
+    Filling {
         at: at + m,
         from: r.from - skip,
     }
 }
 
 // The bytes of a record: of its count, its key and its data those that are named, all from the track.
-fn put_record(p: Parts, c: u16, n: Counts, track: &[u16], r: Rest, into: &mut [u8]) -> Rest
+fn put_record(p: Parts, c: u16, n: Counts, track: &[u16], r: Filling, into: &mut [u8]) -> Filling
     requires { ⌜ LieAll (now track) p c n × (r .at ≤ length (now into)) ⌝ }
     ensures { λ x. ⌜ Puts (now (into .entry)) r (recordGiven (now (track .entry)) p c n) (now (into .exit)) x ⌝ }
 {
@@ -93,12 +93,11 @@ pub fn give(counted: bool, j: Job, track: &[u16], from: u32, into: &mut [u8])
     ensures { λ _. ⌜ ((v : List ℕ) → now (into .exit)
         ≡ filled (now (into .entry)) from (given (readTurn counted (sight (alone (now (track .entry))) j v) .moves))) ⌝ }
 {
-    let r = Rest {
+    let r = Filling {
         at: 0,
         from: from as usize,
     };
-    let rule = j.rule;
-    let names = rule.names;
+    let names = j.names;
     match names {
         Names::Nothing => {}
         Names::HomeAddress => {
@@ -128,11 +127,10 @@ fn many_given(counted: bool, names: Names, n: Counts) -> u32
 
 // A read that has read all that it names.
 pub fn read(counted: bool, j: Job) -> Report
-    ensures { λ r. ⌜ r ≡ reportAt j (j .task) (endingOf j) (Transfer.Gives (manyGiven counted (j .rule .names) (j .counts))) false ⌝ }
+    ensures { λ r. ⌜ r ≡ reportAt j (j .task) (endingOf j) (Transfer.Gives (manyGiven counted (j .names) (j .counts))) false ⌝ }
 {
     let end = ending::ending_of(j);
-    let rule = j.rule;
-    let names = rule.names;
+    let names = j.names;
     let n = many_given(counted, names, j.counts);
     ending::ended(j, end, Transfer::Gives(n), false)
 }

@@ -100,12 +100,12 @@ module _ (t : List ℕ) (h : Head) (c : ℕ) (n : Counts) where
 
 -- .. of a job
 abbrev pub fieldIn : List ℕ → Job → List ℕ
-fieldIn t j = fieldOf (j .rule .names) (j .counts) (seenOf (alone t) (areasRead (alone t) j))
+fieldIn t j = fieldOf (j .names) (j .counts) (seenOf (alone t) (areasRead (alone t) j))
 
 pub field-lies : (t : List ℕ) (j : Job) → Sighted (alone t) j
-    → Lying t (fieldIn t j) (fieldFirst (j .rule .names) (j .task .place)) (fieldLength (j .rule .names) (j .counts))
+    → Lying t (fieldIn t j) (fieldFirst (j .names) (j .task .place)) (fieldLength (j .names) (j .counts))
 unfolding areasRead
-field-lies t j s = field-by t (j .task .head) (j .task .place) (j .counts) (j .rule .names) (s .sees)
+field-lies t j s = field-by t (j .task .head) (j .task .place) (j .counts) (j .names) (s .sees)
 
 pub lying-long : (t f : List ℕ) (first n : ℕ) → Lying t f first n → length f ≡ n
 lying-long t f first n l = ap length (l .there) ∙ length-bytesOf (part t first n) ∙ length-part t first n (l .ends)

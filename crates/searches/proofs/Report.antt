@@ -20,7 +20,7 @@ use Rattle.searches.specs.Field.{fieldFirst, fieldLength}
 use Rattle.searches.proofs.Fields.{Lying, fieldIn, field-lies, lying-long}
 
 module _ (h : How) (t : List ℕ) (j : Job) (s : Sighted (alone t) j) (n first : ℕ)
-    (p : n ≡ fieldLength (j .rule .names) (j .counts)) (q : first ≡ fieldFirst (j .rule .names) (j .task .place)) where
+    (p : n ≡ fieldLength (j .names) (j .counts)) (q : first ≡ fieldFirst (j .names) (j .task .place)) where
   here : Lying t (fieldIn t j) first n
   here =
       let l = field-lies t j s in

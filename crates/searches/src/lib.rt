@@ -117,8 +117,7 @@ pub fn search(h: How, j: Job, sent: &[u8], track: &[u16]) -> Report
     requires { ⌜ Sighted (alone (now track)) j ⌝ }
     ensures { λ r. ⌜ r ≡ reportOf (searchTurn h (sight (alone (now (track .entry))) j (now (sent .entry)))) ⌝ }
 {
-    let rule = j.rule;
-    let names = rule.names;
+    let names = j.names;
     let n = field_length(names, j.counts);
     let first = field_first(names, j.task.place);
     let x = compare_field(track, first, n as usize, sent);

@@ -1,8 +1,11 @@
--- What a computed test finds of every row of the table, and of the row of unknown codes, holds of the row of every code.
-use Prim.Native.Nat.{ℕ}
-use mathlib.Core.Path.{_≡_}
-use mathlib.Core.Bool.{Bool, true}
+-- What a computed test finds of every row of the table, and of the row of unknown codes, holds of the row of every code. A test of two bits is the table of its
+-- four values.
+use Prim.Native.Nat.{ℕ, zero, suc, _<_}
+use mathlib.Core.Path.{_≡_, refl}
+use mathlib.Core.Bool.{Bool, true, false}
 use mathlib.Core.List.{List, [], _∷_}
+use native.Mathlib.Omega.{arith}
+use lib.ListN.{getD}
 use lib.Dec.{eqb}
 use Rattle.cells.specs.Cells.{both}
 use Rattle.cells.proofs.Tests.{pick-all, first-of, second-of}
@@ -32,3 +35,12 @@ of-every p h c =
     found p c controls _ (first-of (each p controls) _ h)
     (found p c searches _ (first-of (each p searches) _ h1)
     (found p c reads _ (first-of (each p reads) _ h2) (found p c writes _ (first-of (each p writes) _ h3) (second-of (each p writes) _ h3))))
+
+-- ---- two bits
+
+pub tabled : (test : ℕ → Bool) (n : ℕ) → n < 4 → test n ≡ getD (test 0 ∷ test 1 ∷ test 2 ∷ test 3 ∷ []) n false
+tabled test zero h = refl
+tabled test (suc zero) h = refl
+tabled test (suc (suc zero)) h = refl
+tabled test (suc (suc (suc zero))) h = refl
+tabled test (suc (suc (suc (suc n)))) h = absurd (omega arith)

@@ -1,19 +1,20 @@
--- Document 01, "Commands" and "Where the head stands": one row a command, in the order of its list. A TIC is no command (`words:Words.isTic`).
--- The columns are the fields of `Rule`: which command must come before; what of the mask bars it; which record it takes; which areas of
+-- Document 01, "Commands" and "Where the head stands": one row a command, in the order of its list, and the file mask. A TIC is no command
+-- (`words:Words.isTic`). The columns are the fields of `Rule`: which command must come before; what of the mask bars it; which record it takes; which areas of
 -- it are read; what is done then; whether the record is left selected, and whom it then serves; Unit Exception at DL = 0; whether sense is cleared first.
-use Prim.Native.Nat.{ℕ}
+use Prim.Native.Nat.{ℕ, _/_, _%_}
 use mathlib.Core.Bool.{Bool, true, false}
 use mathlib.Core.List.{List, [], _∷_}
+use lib.ListN.{getD}
 use lib.Dec.{eqb}
-use Rattle.cells.specs.Cells.{pick}
-use Rattle.mask.specs.declared.{Seeking.Seeking, Writing.Writing}
+use Rattle.cells.specs.Cells.{pick, both}
 -- Licence, which command must come before: Any; Look, a search or a read; HomeAddress, Write HA or Search HA equal over its field; WrittenOrEqual, Write
 -- R0 or Count Key Data, or 31 or 29 equal over their field; EqualIdOrKey, 31 or 29 so; EqualId, 31 so. Bar: Nothing, Seeks seeking, Writes writing.
+-- Seeking: Seek (07), SeekCylinder (0B), SeekHead (1B). Writing, the writes that a mask tells apart: HomeOrR0 (19, 15), CountKeyData (1D), Update (05, 0D).
 -- Aim: Stays; HomeAddress or R0, at the index point; NextId, by Search ID's rule; Next; NextForData and NextForKey, the record selected, if the command
 -- before serves Read Data, or also Read KD and searches by key, or else the next; Selected. Names, which areas are read: Nothing, HomeAddress, Count key
--- data. Act: Control control, Search how, Read counted (a count's 8 bytes move), Write write. Control, Write: by name;
--- Update key is data, with the key or not. How: IfEqual, IfHigh, IfEqualOrHigh. Serves: Nobody, Data (Read Data), DataAndKey (also Read KD and searches by key).
-use Rattle.table.specs.declared.{How.How, Licence.Licence, Bar.Bar, Aim.Aim, Names.Names, Serves.Serves, Control.Control, Write.Write, Act.Act, Rule.Rule}
+-- data. Act: Control control, Search how, Read counted (a count's 8 bytes move), Write write. Control, Write: by name; Update key is data, with the key or
+-- not. How: IfEqual, IfHigh, IfEqualOrHigh. Serves: Nobody, Data (Read Data), DataAndKey (also Read KD and searches by key).
+use Rattle.table.specs.declared.{How.How, Licence.Licence, Seeking.Seeking, Writing.Writing, Bar.Bar, Aim.Aim, Names.Names, Serves.Serves, Control.Control, Write.Write, Act.Act, Rule.Rule}
 
 -- ---- values of the columns
 
@@ -53,7 +54,17 @@ uncounted = false
 
 -- a control command clears sense first, or does not: Sense and No-op
 abbrev pub plainRow : Licence → Bar → Control → Bool → Rule
-plainRow l b a c = record { licence = l; bar = b; aim = Aim.Stays; names = Names.Nothing; act = Act.Control a; selects = selectsNone; serves = Serves.Nobody; excepts = accepts; clears = c }
+plainRow l b a c = record {
+  licence = l;
+  bar = b;
+  aim = Aim.Stays;
+  names = Names.Nothing;
+  act = Act.Control a;
+  selects = selectsNone;
+  serves = Serves.Nobody;
+  excepts = accepts;
+  clears = c;
+}
 
 abbrev pub quietRow : Control → Rule
 quietRow a = plainRow Licence.Any Bar.Nothing a false
@@ -75,7 +86,17 @@ abbrev pub readRow : Aim → Names → Bool → Bool → Serves → Bool → Rul
 readRow a n c s v x = lookRow a n (Act.Read c) s v x
 
 abbrev pub writeRow : Licence → Writing → Aim → Names → Write → Bool → Bool → Rule
-writeRow l b a n w s x = record { licence = l; bar = Bar.Writes b; aim = a; names = n; act = Act.Write w; selects = s; serves = Serves.Nobody; excepts = x; clears = true }
+writeRow l b a n w s x = record {
+  licence = l;
+  bar = Bar.Writes b;
+  aim = a;
+  names = n;
+  act = Act.Write w;
+  selects = s;
+  serves = Serves.Nobody;
+  excepts = x;
+  clears = true;
+}
 
 -- ---- the table: a code, and its row
 
@@ -179,3 +200,34 @@ isHome Aim.Next = false
 isHome Aim.NextForData = false
 isHome Aim.NextForKey = false
 isHome Aim.Selected = false
+
+-- ---- the file mask: which bytes are masks, and what a mask bars. Bit 0 is the leftmost
+
+-- bits 0 and 1, and bits 3 and 4, each pair a number 0 to 3
+abbrev pub writeBits : ℕ → ℕ
+writeBits m = m / 64
+
+abbrev pub seekBits : ℕ → ℕ
+seekBits m = m / 8 % 4
+
+-- the other bits, 2 and 5 to 7, must be 0
+unfoldable pub isMask : ℕ → Bool
+isMask m = both (eqb (m / 32 % 2) 0) (eqb (m % 8) 0)
+
+-- whether writing is barred with bits 0 and 1 at 00, 01, 10, 11, in that order
+unfoldable pub writesBarred : Writing → List Bool
+writesBarred Writing.HomeOrR0 = true ∷ true ∷ true ∷ false ∷ []
+writesBarred Writing.CountKeyData = false ∷ true ∷ true ∷ false ∷ []
+writesBarred Writing.Update = false ∷ true ∷ false ∷ false ∷ []
+
+-- whether seeking is barred with bits 3 and 4 at 00, 01, 10, 11, in that order
+unfoldable pub seeksBarred : Seeking → List Bool
+seeksBarred Seeking.Seek = false ∷ true ∷ true ∷ true ∷ []
+seeksBarred Seeking.SeekCylinder = false ∷ false ∷ true ∷ true ∷ []
+seeksBarred Seeking.SeekHead = false ∷ false ∷ false ∷ true ∷ []
+
+unfoldable pub barsWrite : ℕ → Writing → Bool
+barsWrite m w = getD (writesBarred w) (writeBits m) false
+
+unfoldable pub barsSeek : ℕ → Seeking → Bool
+barsSeek m s = getD (seeksBarred s) (seekBits m) false

@@ -1,11 +1,8 @@
-// The commands, a row each.
-use mask::Seeking;
-use mask::Writing;
+// The commands, a row each, and the file mask.
 ghost use mathlib.Core.Path.{_≡_};
 ghost use mathlib.Core.Bool.{true, false};
-ghost use Rattle.table.specs.Table.{plainRow, lookRow, seekRow, searchRow, readRow, writeRow, count, countKey, selects, selectsNone, accepts, excepts, searches, reads, writes, unknown, find, ruleOf, looks, servesData, servesKey, isHome};
-ghost use Rattle.mask.specs.declared.{Writing.Writing};
-ghost use Rattle.table.specs.declared.{Licence.Licence, Bar.Bar, Act.Act, Write.Write, Aim.Aim, Names.Names, Serves.Serves};
+ghost use Rattle.table.specs.Table.{plainRow, lookRow, seekRow, searchRow, readRow, writeRow, count, countKey, selects, selectsNone, accepts, excepts, searches, reads, writes, unknown, find, ruleOf, looks, servesData, servesKey, isHome, isMask, barsWrite, barsSeek};
+ghost use Rattle.table.specs.declared.{Licence.Licence, Writing.Writing, Bar.Bar, Act.Act, Write.Write, Aim.Aim, Names.Names, Serves.Serves};
 
 // What satisfies a search: equal, the track's higher, or either.
 pub enum How {
@@ -23,6 +20,20 @@ pub enum Licence {
     WrittenOrEqual,
     EqualIdOrKey,
     EqualId,
+}
+
+// The writes that a mask tells apart: 19 and 15; 1D; 05 and 0D.
+pub enum Writing {
+    HomeOrR0,
+    CountKeyData,
+    Update,
+}
+
+// The seeks that a mask tells apart: 07, 0B, 1B.
+pub enum Seeking {
+    Seek,
+    SeekCylinder,
+    SeekHead,
 }
 
 // Which bits of the file mask bar it.
@@ -105,6 +116,13 @@ const SELECTS_NONE: bool = false;
 const EXCEPTS: bool = true;
 
 const ACCEPTS: bool = false;
+
+// Of a mask the rightmost of bits 0-1, bit 2, and the rightmost of bits 3-4; bits 5 to 7 are below.
+const BIT_1: u8 = 0x40;
+
+const BIT_2: u8 = 0x20;
+
+const BIT_4: u8 = 0x08;
 
 // Control: sense is cleared first, or is not.
 fn plain_row(l: Licence, b: Bar, a: Control, clears: bool) -> Rule
@@ -337,5 +355,36 @@ pub fn is_home(a: Aim) -> bool
     match a {
         Aim::HomeAddress => true,
         _ => false,
+    }
+}
+
+// Whether a byte is a mask.
+pub fn is_mask(mask: u8) -> bool
+    ensures { λ r. ⌜ r ≡ isMask mask ⌝ }
+{
+    mask / BIT_2 % 0b10 == 0 && mask % BIT_4 == 0
+}
+
+// Whether a mask bars a write.
+pub fn bars_write(mask: u8, write: Writing) -> bool
+    ensures { λ r. ⌜ r ≡ barsWrite mask write ⌝ }
+{
+    let bits = mask / BIT_1;
+    match write {
+        Writing::HomeOrR0 => bits != 0b11,
+        Writing::CountKeyData => bits % 0b11 != 0,
+        Writing::Update => bits == 0b01,
+    }
+}
+
+// Whether a mask bars a seek.
+pub fn bars_seek(mask: u8, seek: Seeking) -> bool
+    ensures { λ r. ⌜ r ≡ barsSeek mask seek ⌝ }
+{
+    let bits = mask / BIT_4 % 0b100;
+    match seek {
+        Seeking::Seek => bits != 0b00,
+        Seeking::SeekCylinder => bits >= 0b10,
+        Seeking::SeekHead => bits == 0b11,
     }
 }

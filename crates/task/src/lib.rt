@@ -169,8 +169,7 @@ fn to_next(r: Rule, track: &[u16], s: Position, o: Orders) -> Plan
     requires { ⌜ WholeTrack (now track) ⌝ }
     ensures { λ x. ⌜ x ≡ toNext r (marksOf (alone (now (track .entry)))) s o ⌝ }
 {
-    let head = s.head;
-    on_next(r, o, head, hunt::next_record(track, s.place))
+    on_next(r, o, s.head, hunt::next_record(track, s.place))
 }
 
 // The record selected, where the command before serves this one, or else the next.
@@ -182,9 +181,8 @@ fn to_served(r: Rule, track: &[u16], s: Position, o: Orders, serves: bool) -> Pl
         return to_next(r, track, s, o);
     }
     let selection = o.selection;
-    let head = s.head;
     match selection {
-        Selection::On(spot) => on_record(r, o, head, spot, 0),
+        Selection::On(spot) => on_record(r, o, s.head, spot, 0),
         Selection::Nothing => to_next(r, track, s, o),
     }
 }
@@ -194,8 +192,7 @@ fn to_next_id(r: Rule, track: &[u16], s: Position, o: Orders) -> Plan
     requires { ⌜ WholeTrack (now track) ⌝ }
     ensures { λ x. ⌜ x ≡ aimed r (marksOf (alone (now (track .entry)))) s o Aim.NextId ⌝ }
 {
-    let head = s.head;
-    on_next(r, o, head, hunt::next_id(track, s.place))
+    on_next(r, o, s.head, hunt::next_id(track, s.place))
 }
 
 // Whether the command before serves Read Data.
@@ -232,16 +229,15 @@ fn aimed(r: Rule, track: &[u16], s: Position, o: Orders, a: Aim) -> Plan
     requires { ⌜ WholeTrack (now track) × SelectedOn (marks (now track)) (o .selection) ⌝ }
     ensures { λ x. ⌜ x ≡ aimed r (marksOf (alone (now (track .entry)))) s o a ⌝ }
 {
-    let head = s.head;
     match a {
-        Aim::Stays => task_at(head, s.place),
-        Aim::HomeAddress => task_at(head, HOME_PLACE),
-        Aim::R0 => on_record(r, o, head, Spot::R0, 0),
+        Aim::Stays => task_at(s.head, s.place),
+        Aim::HomeAddress => task_at(s.head, HOME_PLACE),
+        Aim::R0 => on_record(r, o, s.head, Spot::R0, 0),
         Aim::NextId => to_next_id(r, track, s, o),
         Aim::Next => to_next(r, track, s, o),
         Aim::NextForData => to_served(r, track, s, o, is_serving_data(o.before)),
         Aim::NextForKey => to_served(r, track, s, o, is_serving_key(o.before)),
-        Aim::Selected => on_selected(r, o, head),
+        Aim::Selected => on_selected(r, o, s.head),
     }
 }
 
@@ -258,8 +254,8 @@ fn unless_barred(b: Bar, mask: u8, x: Plan) -> Plan
 {
     match b {
         Bar::Nothing => x,
-        Bar::Seeks(k) => unless(mask::bars_seek(mask, k), Row::SeekBarred, x),
-        Bar::Writes(k) => unless(mask::bars_write(mask, k), Row::WriteBarred, x),
+        Bar::Seeks(k) => unless(table::bars_seek(mask, k), Row::SeekBarred, x),
+        Bar::Writes(k) => unless(table::bars_write(mask, k), Row::WriteBarred, x),
     }
 }
 

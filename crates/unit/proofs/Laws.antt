@@ -76,6 +76,6 @@ pub laid-by : (t u : List ℕ) (g : Shape) (x : Sight) (a b : Act) → a ≡ b �
 laid-by t u g x a b e q = q ∙ ap (λ (z : Act). lay (actTurn g z x .lays) t) (sym e)
 
 -- a write that does not end in Unit Check
-pub accepts-by : (j : Job) (v t : List ℕ) (w : Write) → j .rule .act ≡ Act.Write w → Accepts j v t → isCheck (writeTurn w (sight (alone t) j v) .ending) ≡ false
+pub accepts-by : (j : Job) (v t : List ℕ) (w : Write) → j .act ≡ Act.Write w → Accepts j v t → isCheck (writeTurn w (sight (alone t) j v) .ending) ≡ false
 unfolding actTurn
 accepts-by j v t w e h = ap (λ (a : Act). isCheck (actTurn (h .shape) a (sight (alone t) j v) .ending)) (sym e) ∙ h .ends

@@ -10,7 +10,7 @@ use Rattle.command.specs.Command.{sight, actTurn}
 
 -- the turn of a job on this track, with these bytes sent
 abbrev pub jobTurn : Shape → List ℕ → Job → List ℕ → Turn
-jobTurn g t j v = actTurn g (j .rule .act) (sight (alone t) j v)
+jobTurn g t j v = actTurn g (j .act) (sight (alone t) j v)
 
 -- it does not end in Unit Check
 pub record Accepts (j : Job) (v t : List ℕ) : Type 0 where

@@ -25,11 +25,15 @@ ghost use Rattle.unit.specs.Unit.{jobTurn, Accepts};
 fn read(code: u8, r: Rule, s: Position, o: Orders, k: Task, track: &[u16]) -> Ready
     ensures { λ x. ⌜ x ≡ readyBy (alone (now (track .entry))) code r s o (Works k) ⌝ }
 {
+    let act = r.act;
     let names = r.names;
     match sight::get(track, names, k.place) {
         Got::Sees(counts) => Ready::Acts(Job {
             code,
-            rule: r,
+            act,
+            names,
+            excepts: r.excepts,
+            clears: r.clears,
             position: s,
             orders: o,
             task: k,
@@ -56,8 +60,7 @@ pub fn ask(g: Shape, j: Job, sent: &[u8], track: &[u16]) -> Report
     requires { ⌜ WholeTrack (now track) × Sighted (alone (now track)) j ⌝ }
     ensures { λ r. ⌜ r ≡ reportOf (jobTurn g (now (track .entry)) j (now (sent .entry))) ⌝ }
 {
-    let rule = j.rule;
-    let act = rule.act;
+    let act = j.act;
     match act {
         Act::Control(k) => controls::control(g, k, j, sent, track),
         Act::Search(h) => searches::search(h, j, sent, track),
@@ -72,8 +75,7 @@ fn give_control(k: Control, j: Job, from: u32, into: &mut [u8])
         ≡ filled (now (into .entry)) from (given (controlTurn g k (sight t j v) .moves))) ⌝ }
 {
     if let Control::Sense = k {
-        let position = j.position;
-        controls::give_sense(position, from, into);
+        controls::give_sense(j.position, from, into);
     }
 }
 
@@ -83,8 +85,7 @@ pub fn give(j: Job, track: &[u16], from: u32, into: &mut [u8])
     ensures { λ _. ⌜ ((g : Shape) (v : List ℕ) → now (into .exit)
         ≡ filled (now (into .entry)) from (given (jobTurn g (now (track .entry)) j v .moves))) ⌝ }
 {
-    let rule = j.rule;
-    let act = rule.act;
+    let act = j.act;
     match act {
         Act::Control(k) => give_control(k, j, from, into),
         Act::Search(_) => {}
@@ -98,8 +99,7 @@ pub fn lay(j: Job, sent: &[u8], track: &mut [u16])
     requires { ⌜ WholeTrack (now track) × Sighted (alone (now track)) j × Accepts j (now sent) (now track) ⌝ }
     ensures { λ _. ⌜ ((g : Shape) → now (track .exit) ≡ lay (jobTurn g (now (track .entry)) j (now (sent .entry)) .lays) (now (track .entry))) ⌝ }
 {
-    let rule = j.rule;
-    let act = rule.act;
+    let act = j.act;
     match act {
         Act::Control(_) => {}
         Act::Search(_) => {}

@@ -1,4 +1,4 @@
--- What the table says of the writes: the row of Write R0 names the home address. With it a caller whose job has the row of its code gives `Writes`.
+-- What the table says of the writes: the row of Write R0 names the home address. With it a caller whose job does and names what its code's row says gives `DoesWrite`.
 use Prim.Native.Nat.{ℕ}
 use mathlib.Core.Path.{_≡_, refl, sym, ap, _∙_, subst}
 use mathlib.Core.List.{List, [], _∷_}
@@ -40,9 +40,8 @@ rows c =
     (find-all c searches _ (tt, (tt, (tt, (tt, (tt, (tt, (tt, tt)))))))
     (find-all c reads _ (tt, (tt, (tt, (tt, (tt, (tt, tt)))))) (find-all c writes _ (tt, (refl, (tt, (tt, (tt, tt))))) tt)))
 
-pub writes-by : (j : Job) (w : Write) → j .rule ≡ ruleOf (j .code) → j .rule .act ≡ Act.Write w → DoesWrite j w
-writes-by j w p e = record {
+pub writes-by : (j : Job) (w : Write) → j .act ≡ ruleOf (j .code) .act → j .names ≡ ruleOf (j .code) .names → j .act ≡ Act.Write w → DoesWrite j w
+writes-by j w p n e = record {
   act = e;
-  home = λ q.
-      subst (λ (a : Act). ActNames a (j .rule .names)) (e ∙ ap Act.Write q) (subst RowNames (sym p) (rows (j .code)));
+  home = λ q. n ∙ subst (λ (a : Act). ActNames a (ruleOf (j .code) .names)) (sym p ∙ e ∙ ap Act.Write q) (rows (j .code));
 }

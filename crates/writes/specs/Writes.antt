@@ -12,10 +12,10 @@ use Rattle.command.specs.Command.{keySent}
 use Rattle.table.specs.declared.{Names.Names, Write.Write, Act.Act}
 use Rattle.command.specs.declared.{Job.Job}
 
--- the job's row has this write, and Write R0 has read the home address
+-- the job does this write, and Write R0 has read the home address
 pub record DoesWrite (j : Job) (w : Write) : Type 0 where
-  pub act : j .rule .act ≡ Act.Write w
-  pub home : w ≡ Write.R0 → j .rule .names ≡ Names.HomeAddress
+  pub act : j .act ≡ Act.Write w
+  pub home : w ≡ Write.R0 → j .names ≡ Names.HomeAddress
 
 -- a track with an area of n bytes recorded over it, if there are any, of those sent from one on
 unfoldable pub goneOver : List ℕ → ℕ → List ℕ → ℕ → ℕ → List ℕ

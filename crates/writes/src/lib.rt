@@ -112,7 +112,6 @@ pub fn write(w: Write, j: Job, sent: &[u8], track: &[u16]) -> Report
     requires { ⌜ DoesWrite j w ⌝ }
     ensures { λ r. ⌜ r ≡ reportOf (writeTurn w (sight (alone (now (track .entry))) j (now (sent .entry)))) ⌝ }
 {
-    let n = j.counts;
     match w {
         Write::HomeAddress => ending::ended(
             j,
@@ -125,8 +124,8 @@ pub fn write(w: Write, j: Job, sent: &[u8], track: &[u16]) -> Report
             write_r0(areas::flag_of_r0(home), j, sent)
         }
         Write::CountKeyData => write_after(
-            areas::end_by(j.task.place, n),
-            areas::flag_after(n.flag),
+            areas::end_by(j.task.place, j.counts),
+            areas::flag_after(j.counts.flag),
             j,
             sent,
         ),
@@ -191,8 +190,6 @@ pub fn lay(w: Write, j: Job, sent: &[u8], track: &mut [u16])
     requires { ⌜ WholeTrack (now track) × DoesWrite j w × (isCheck (writeTurn w (sight (alone (now track)) j (now sent)) .ending) ≡ false) ⌝ }
     ensures { λ _. ⌜ now (track .exit) ≡ lay (writeTurn w (sight (alone (now (track .entry))) j (now (sent .entry))) .lays) (now (track .entry)) ⌝ }
 {
-    let c = j.task.place;
-    let n = j.counts;
     match w {
         Write::HomeAddress => lay_home(sent, track),
         Write::R0 => {
@@ -200,11 +197,11 @@ pub fn lay(w: Write, j: Job, sent: &[u8], track: &mut [u16])
             lay_r0(areas::flag_of_r0(home), sent, track)
         }
         Write::CountKeyData => lay_after(
-            areas::end_by(c, n),
-            areas::flag_after(n.flag),
+            areas::end_by(j.task.place, j.counts),
+            areas::flag_after(j.counts.flag),
             sent,
             track,
         ),
-        Write::Update(key) => update(key, c, n, sent, track),
+        Write::Update(key) => update(key, j.task.place, j.counts, sent, track),
     }
 }

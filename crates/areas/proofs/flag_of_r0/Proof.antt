@@ -1,4 +1,4 @@
--- `areas::flag_of_zero` meets its contract: the definition's own arithmetic.
+-- `areas::flag_of_r0` meets its contract: the definition's own arithmetic.
 use Rattle.areas.specs.Areas.{flagOfR0}
 use borrow.Author.Needs.{needs}
 use Rattle.areas.proofs.flag_of_r0.Statement.{statement}

@@ -40,7 +40,7 @@ same-length-3 c = search needs
 returns : tie.Need-returns
 returns c =
     let b = c .before .before .before in
-    let k = b .before .before .before .before .before .before .before in
+    let k = b .before .before .before .before .before .before in
     let h = k .before .before .before .before in
     go-told _ _ _ _ _ (h .before .before .keep .ensures) _ (h .h .given .1) _ _ _ _ _ _ _ (k .go .ensures) (c .number-of .ensures) (b .put .ensures .1)
 

@@ -5,19 +5,19 @@ use borrow.Author.Needs.{needs}
 use Rattle.chain.proofs.advance.Statement.{statement}
 use Rattle.chain.proofs.advance.Tie as tie
 
-is-pass-requires : tie.Need-is-pass-requires
-is-pass-requires c κs = search needs
+is-chained-no-op-at-requires : tie.Need-is-chained-no-op-at-requires
+is-chained-no-op-at-requires c κs = search needs
 
-pass-requires : tie.Need-pass-requires
-pass-requires c κs =
+pass-no-ops-requires : tie.Need-pass-no-ops-requires
+pass-no-ops-requires c κs =
     let s = c .before .before .before .before .before .before .pre in
-    (s .1, s .2, sym (c .before .before .is-pass .ensures) ∙ c .before .if1 .taken)
+    (s .1, s .2, sym (c .before .before .is-chained-no-op-at .ensures) ∙ c .before .if1 .taken)
 
 same-length : tie.Need-same-length
 same-length c = search needs
 
 returns : tie.Need-returns
-returns c = by-stroke _ _ _ _ _ _ _ (c .before .before .before .before .before .before .before .pre .0) (c .pass .ensures)
+returns c = by-stroke _ _ _ _ _ _ _ (c .before .before .before .before .before .before .before .pre .0) (c .pass-no-ops .ensures)
 
 step-requires : tie.Need-step-requires
 step-requires c κs = search needs
@@ -41,8 +41,8 @@ pub advance-spec : {M : Type 1} → statement M
 advance-spec =
     tie.close
     (tie.spec
-    is-pass-requires
-    pass-requires
+    is-chained-no-op-at-requires
+    pass-no-ops-requires
     same-length
     returns
     step-requires

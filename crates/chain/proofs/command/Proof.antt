@@ -8,19 +8,19 @@ use Rattle.chain.proofs.command.Tie as tie
 
 start-of-requires : tie.Need-start-of-requires
 start-of-requires c κs =
-    let p = c .before .before .before .before .before .pre .0 in
+    let p = c .before .before .pre .0 in
     (p .whole .cylinders, p .whole .heads, position-on _ _ (standing _ _ p))
 
 obey-requires : tie.Need-obey-requires
 obey-requires c κs =
-    let p = c .before .before .before .before .before .before .before .before .pre in
+    let p = c .before .before .before .before .before .pre in
     lent-serves _ _ _ _ _ (p .0) _ (c .before .before .start-of .ensures .0) (p .1)
 
 returns : tie.Need-returns
 returns c =
     let did = c .before .before .before .before .obey in
     let at = c .before .before .before .before .before .before .before .start-of in
-    let p = c .before .before .before .before .before .before .before .before .before .before .before .before .before .pre in
+    let p = c .before .before .before .before .before .before .before .before .before .before .pre in
     commanded _ _ _ _ _ (p .0) _ _ _ _ (at .ensures .0) (omega (arith, at .ensures .1, p .0 .whole .count)) (p .1) (did .ensures) (did .kept .1 .1 .1 .1 .0)
 
 pub command-spec : {M : Type 1} → statement M

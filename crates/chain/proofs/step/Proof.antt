@@ -1,9 +1,7 @@
 -- `chain::step` meets its contract: what the word's tests say decides which call, and each leaves what the model has there.
-use mathlib.Core.Path.{refl}
-use Rattle.chain.specs.Step.{stepBy}
 use Rattle.chain.proofs.Fits.{key-in, channeled}
 use native.Mathlib.Omega.{arith}
-use Rattle.chain.proofs.Laws.{taken, stopped, word-reaches, world-eq}
+use Rattle.chain.proofs.Laws.{step-obeys, step-jumps, step-ends, word-reaches}
 use borrow.Author.Needs.{needs}
 use Rattle.chain.proofs.step.Statement.{statement}
 use Rattle.chain.proofs.step.Tie as tie
@@ -40,30 +38,27 @@ same-length-2 : tie.Need-same-length-2
 same-length-2 c = search needs
 
 returns : tie.Need-returns
-unfolding stepBy
 returns c =
     let b = c .before .before .before .before in
     let k = b .before .before .before .before in
-    taken _ _ _ _ _ (k .before .before .test .ensures) (k .w .given .1) (b .command .ensures)
+    step-obeys _ _ _ _ _ _ (k .before .before .test .ensures) _ _ _ (k .w .given .1) (b .command .ensures)
 
 same-length-3 : tie.Need-same-length-3
 same-length-3 c = search needs
 
 returns-2 : tie.Need-returns-2
-unfolding stepBy
 returns-2 c =
     let k = c .before .before in
-    taken _ _ _ _ _ (k .before .before .test .ensures) (k .a .given .1) (world-eq (c .jump .ensures) refl refl)
+    step-jumps _ _ _ _ _ _ (k .before .before .test .ensures) _ (k .a .given .1) (c .jump .ensures)
 
 same-length-4 : tie.Need-same-length-4
 same-length-4 c = search needs
 
 returns-3 : tie.Need-returns-3
-unfolding stepBy
 returns-3 c =
     let b = c .before .before in
     let k = b .before .before .before in
-    taken _ _ _ _ _ (k .before .before .test .ensures) (k .cause .given .1) (stopped _ _ _ _ _ _ (b .stop .ensures .0) (b .stop .ensures .1))
+    step-ends _ _ _ _ _ _ (k .before .before .test .ensures) _ _ (k .cause .given .1) (b .stop .ensures .0) (b .stop .ensures .1)
 
 pub step-spec : {M : Type 1} → statement M
 step-spec =

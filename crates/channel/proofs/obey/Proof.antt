@@ -7,7 +7,7 @@ use Rattle.channel.proofs.obey.Tie as tie
 returns : tie.Need-returns
 returns c =
     let s = c .before .before in
-    obeys _ _ _ _ _ _ _ _ _ _ (c .before .before .before .before .before .before .before .before .before .turn .ensures) (s .settle .ensures .0) (s .settle .ensures .1)
+    obeys _ _ _ _ _ _ _ _ _ _ (c .before .before .before .before .before .before .before .before .turn .ensures) (s .settle .ensures .0) (s .settle .ensures .1)
 
 pub obey-spec : {M : Type 1} → statement M
 obey-spec =

@@ -8,12 +8,12 @@ use Rattle.channel.proofs.settle.Tie as tie
 
 returns : tie.Need-returns
 returns c =
-    let b = c .before .before .before in
+    let b = c .before .before .before .before in
     (held-on _ _ _ _ _ _ (b .before .goes-on .ensures) (b .if1 .taken) (c .before .stride .ensures) (c .onward .ensures), storage-on _ _ _ _ _ (b .before .goes-on .ensures) (b .if1 .taken))
 
 store-status-requires : tie.Need-store-status-requires
 store-status-requires c κs =
-    let x = c .before .before .before .before .before .before in
+    let x = c .before .before .before .before .before in
     storable _ _ _ _ _ (c .status-after .ensures) (x .pre .0) (x .pre .1)
 
 returns-2 : tie.Need-returns-2

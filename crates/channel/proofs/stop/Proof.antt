@@ -12,7 +12,7 @@ program-check-requires c κs = search needs
 
 store-status-requires : tie.Need-store-status-requires
 store-status-requires c κs =
-    let x = c .before .before .before .before in
+    let x = c .before .before .before in
     subst (Storable (x .args .storage .now)) (sym (c .before .program-check .ensures)) (check-storable (x .args .storage .now) (x .args .h .channel .key) (x .args .h .channel .next) (x .args .cause) (omega arith) (x .pre .1))
 
 rested-requires : tie.Need-rested-requires

@@ -9,7 +9,7 @@ use Rattle.channel.proofs.turn.Tie as tie
 act-requires : tie.Need-act-requires
 act-requires c κs =
     let r = c .before .before .before .before .before in
-    let p = r .before .before .before .before .before .before .pre in
+    let p = r .before .before .before .before .pre in
     (p .0, p .1, job-sighted _ _ _ _ _ (sym (c .before .before .before .j .given .1) ∙ r .ready .ensures))
 
 returns : tie.Need-returns

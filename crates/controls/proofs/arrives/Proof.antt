@@ -7,7 +7,7 @@ use Rattle.controls.proofs.arrives.Tie as tie
 
 returns : tie.Need-returns
 unfolding reportOf transferOf arrivalTurn sight positionSought positionAt
-returns c t v = rw (c .before .before .before .x .given .1, c .orders-after .ensures)
+returns c t v = rw (c .before .before .x .given .1, c .orders-after .ensures)
 
 returns-2 : tie.Need-returns-2
 unfolding arrivalTurn

@@ -18,7 +18,8 @@ set-at-requires-2 c κs = search needs
 
 returns : tie.Need-returns
 unfolding decoded
-returns c = cc
+returns c =
+    λ i. record { going = c .before .before .before .set-at .ensures i; key = c .before .before .byte-at .ensures i; next = c .before .four-at .ensures i; «after_tic» = c .set-at2 .ensures i }
 
 pub channel-in-spec : {M : Type 1} → statement M
 channel-in-spec =

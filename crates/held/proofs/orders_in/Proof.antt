@@ -24,7 +24,9 @@ selection-in-requires c κs = search needs
 
 returns : tie.Need-returns
 unfolding decoded
-returns c = cc
+returns c =
+    let b = c .before .before .before in
+    λ i. record { mask = b .before .before .byte-at .ensures i; «mask_set» = b .before .set-at .ensures i; before = b .byte-at2 .ensures i; whole = c .before .before .set-at2 .ensures i; tally = c .before .byte-at3 .ensures i; selection = c .selection-in .ensures i }
 
 pub orders-in-spec : {M : Type 1} → statement M
 orders-in-spec =

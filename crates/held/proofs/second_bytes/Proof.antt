@@ -1,6 +1,9 @@
 -- Each number is taken apart as the model has it.
+use Prim.Native.Nat.{ℕ, _/_, _%_}
+use mathlib.Core.Path.{ap, _∙_}
+use mathlib.Core.List.{_∷_}
 use Rattle.cells.specs.Cells.{part}
-use Rattle.held.specs.Held.{encoded}
+use Rattle.held.specs.Held.{four, encoded}
 use borrow.Author.Needs.{needs}
 use Rattle.held.proofs.second_bytes.Statement.{statement}
 use Rattle.held.proofs.second_bytes.Tie as tie
@@ -46,7 +49,12 @@ low-requires-4 c κs = search needs
 
 returns : tie.Need-returns
 unfolding part encoded
-returns c = cc
+returns c =
+    let b = c .before .before .before .before in
+    let k = b .before .before .before .before in
+    let e = k .selection-cell .ensures in
+    λ i. (b .before .before .before .high .ensures ∙ ap (λ (n : ℕ). n / 256) e) i ∷ (b .before .before .low .ensures ∙ ap (λ (n : ℕ). n % 256) e) i ∷ b .before .high2 .ensures i ∷ b .low2 .ensures i
+    ∷ c .before .before .before .high3 .ensures i ∷ c .before .before .low3 .ensures i ∷ c .before .high4 .ensures i ∷ c .low4 .ensures i ∷ four (k .before .before .args .h .channel .next)
 
 pub second-bytes-spec : {M : Type 1} → statement M
 second-bytes-spec =

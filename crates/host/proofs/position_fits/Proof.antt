@@ -1,4 +1,4 @@
--- `host::stands_fit` meets its contract: it makes the model's tests.
+-- `host::position_fits` meets its contract: it makes the model's tests.
 use Rattle.cells.proofs.Tests.{tests}
 use Rattle.chain.specs.Step.{positionFits}
 use borrow.Author.Needs.{needs}

@@ -5,7 +5,7 @@ use mathlib.Core.Path.{_≡_, sym, ap, _∙_}
 use native.Mathlib.Omega.{arith}
 use Rattle.cells.specs.Cells.{trackCells, marks}
 use Rattle.hunt.specs.Hunt.{hunt}
-use Rattle.hunt.proofs.Laws.{hunt-seven, hunt-here, hunt-on, hunt-end}
+use Rattle.hunt.proofs.Laws.{hunt-first, hunt-here, hunt-on, hunt-end}
 use borrow.Author.Needs.{needs}
 use Rattle.hunt.proofs.next_marker.Statement.{statement}
 use Rattle.hunt.proofs.next_marker.Tie as tie
@@ -19,8 +19,8 @@ abbrev μ-loop : tie.MeasureT-loop
 loop-holds : tie.Need-loop-holds Inv-loop μ-loop
 loop-holds c =
     let x = c .before .before .before .args in
-    let seven = ap (hunt (marks (x .track .now))) (sym (c .before .from-seven .ensures)) in
-    (omega arith, hunt-seven (x .track .now) (x .place) (omega arith) ∙ seven ∙ sym (c .pass-over .ensures .1))
+    let first = ap (hunt (marks (x .track .now))) (sym (c .before .from-first .ensures)) in
+    (omega arith, hunt-first (x .track .now) (x .place) (omega arith) ∙ first ∙ sym (c .pass-over .ensures .1))
 
 returns : tie.Need-returns Inv-loop μ-loop
 returns c =

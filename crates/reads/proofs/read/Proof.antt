@@ -4,7 +4,7 @@ use Rattle.reads.proofs.read.Statement.{statement}
 use Rattle.reads.proofs.read.Tie as tie
 
 returns : tie.Need-returns
-returns c = rw (c .ended .ensures, c .before .before .before .ending-of .ensures, c .before .many-given .ensures)
+returns c = rw (c .ended .ensures, c .before .before .ending-of .ensures, c .before .many-given .ensures)
 
 pub read-spec : {M : Type 1} → statement M
 read-spec =

@@ -13,7 +13,7 @@ on-record-requires c κs = omega arith
 
 on-selected-requires : tie.Need-on-selected-requires
 on-selected-requires c κs =
-    let b = c .before .before .before .before in
+    let b = c .before .before .before in
     selected-place _ (b .pre .0) _ (b .pre .1)
 
 returns : tie.Need-returns

@@ -8,7 +8,7 @@ use Rattle.task.proofs.to_next_id.Statement.{statement}
 use Rattle.task.proofs.to_next_id.Tie as tie
 
 on-next-requires : tie.Need-on-next-requires
-on-next-requires c κs = next-place _ (c .before .before .before .pre) _ _ (c .next-id .ensures) (id-on _ _)
+on-next-requires c κs = next-place _ (c .before .before .pre) _ _ (c .next-id .ensures) (id-on _ _)
 
 returns : tie.Need-returns
 unfolding aimed marksOf

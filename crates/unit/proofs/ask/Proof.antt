@@ -1,4 +1,4 @@
--- Each arm knows what the row does, and calls the family that tells it.
+-- Each arm knows what the job does, and calls the family that tells it.
 use Rattle.command.specs.Command.{actTurn}
 use Rattle.writes.proofs.Rows.{writes-by}
 use mathlib.Core.Path.{_∙_}
@@ -10,8 +10,8 @@ use Rattle.unit.proofs.ask.Tie as tie
 
 write-requires : tie.Need-write-requires
 write-requires c κs =
-    let k = c .before .before .before .before .before .before in
-    writes-by _ _ (k .pre .1 .rule) (c .before .act4 .given .1)
+    let k = c .before .before .before .before .before in
+    writes-by _ _ (k .pre .1 .act) (k .pre .1 .names) (c .before .act4 .given .1)
 
 returns : tie.Need-returns
 unfolding actTurn
@@ -24,7 +24,7 @@ returns-2 c = told-by _ _ _ _ _ (c .before .before .act2 .given .1) (c .search .
 returns-3 : tie.Need-returns-3
 unfolding actTurn
 returns-3 c =
-    let k = c .before .before .before .before .before .before .before in
+    let k = c .before .before .before .before .before .before in
     told-by _ _ _ _ _ (c .before .before .act3 .given .1) (c .read .ensures ∙ told-are _ _ (k .pre .1) _ _)
 
 returns-4 : tie.Need-returns-4

@@ -29,7 +29,7 @@ silent Control.SpaceRecord h = refl
 
 returns : tie.Need-returns
 unfolding sight
-returns c = λ g t v. sense-given _ _ _ g (sight t _ v) _ (c .before .before .before .before .before .enum-told .given .1) (c .before .before .give-sense .ensures)
+returns c = λ g t v. sense-given _ _ _ g (sight t _ v) _ (c .before .before .before .before .enum-told .given .1) (c .before .before .give-sense .ensures)
 
 returns-2 : tie.Need-returns-2
 unfolding actTurn

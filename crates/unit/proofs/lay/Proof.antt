@@ -10,8 +10,8 @@ use Rattle.unit.proofs.lay.Tie as tie
 
 lay-requires : tie.Need-lay-requires
 lay-requires c κs =
-    let k = c .before .before .before .before .before .before .before in
-    (k .pre .0, writes-by _ _ (k .pre .1 .rule) (c .before .before .act .given .1), accepts-by _ _ _ _ (c .before .before .act .given .1) (k .pre .2))
+    let k = c .before .before .before .before .before .before in
+    (k .pre .0, writes-by _ _ (k .pre .1 .act) (k .pre .1 .names) (c .before .before .act .given .1), accepts-by _ _ _ _ (c .before .before .act .given .1) (k .pre .2))
 
 returns : tie.Need-returns
 unfolding isWrite

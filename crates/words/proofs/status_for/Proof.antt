@@ -9,7 +9,9 @@ advanced-requires c κs = search needs
 
 returns : tie.Need-returns
 unfolding statusFor
-returns c = cc
+returns c =
+    let a = c .before .args in
+    λ i. record { key = a .key; address = c .advanced .ensures i; unit = a .unit; channel = a .channel; left = a .left }
 
 pub status-for-spec : {M : Type 1} → statement M
 status-for-spec = tie.close (tie.spec advanced-requires returns)

@@ -51,7 +51,7 @@ slice-write-storage-8 : tie.Need-slice-write-storage-8
 slice-write-storage-8 c = simp length-set (omega arith)
 
 same-length : tie.Need-same-length
-same-length c = search needs
+same-length c = simp length-set
 
 returns : tie.Need-returns
 unfolding stored overlay

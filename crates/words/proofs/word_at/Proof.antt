@@ -21,7 +21,8 @@ word-count-requires c κs = search needs
 
 returns : tie.Need-returns
 unfolding wordAt
-returns c = cc
+returns c =
+    λ i. record { code = c .before .before .before .byte-at .ensures i; address = c .before .before .word-address .ensures i; flags = c .before .byte-at2 .ensures i; count = c .word-count .ensures i }
 
 pub word-at-spec : {M : Type 1} → statement M
 word-at-spec =

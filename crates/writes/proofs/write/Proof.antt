@@ -17,27 +17,27 @@ use Rattle.writes.proofs.write_r0.Reads as write-r0-reads
 write-over-requires : tie.Need-write-over-requires
 write-over-requires c κs =
     let m = c .before in
-    subst (DoesWrite _) (m .w .given .1) (m .before .before .before .before .before .pre)
+    subst (DoesWrite _) (m .w .given .1) (m .before .before .before .before .pre)
 
 returns : tie.Need-returns
 returns c =
     let m = c .before in
-    tells-home _ _ _ _ (m .before .before .before .before .before .pre) _ (m .enum-told .given .1) (c .ended .ensures)
+    tells-home _ _ _ _ (m .before .before .before .before .pre) _ (m .enum-told .given .1) (c .ended .ensures)
 
 returns-2 : tie.Need-returns-2
 returns-2 c =
     let m = c .before .before .before in
-    tells-r0 _ _ _ _ (m .before .before .before .before .before .pre) _ _ _ (m .enum-told2 .given .1) (c .before .before .low-at .ensures) (c .before .flag-of-r0 .ensures) (c .write-r0 .ensures _)
+    tells-r0 _ _ _ _ (m .before .before .before .before .pre) _ _ _ (m .enum-told2 .given .1) (c .before .before .low-at .ensures) (c .before .flag-of-r0 .ensures) (c .write-r0 .ensures _)
 
 returns-3 : tie.Need-returns-3
 returns-3 c =
     let m = c .before .before .before in
-    tells-record _ _ _ _ (m .before .before .before .before .before .pre) _ _ _ (m .enum-told3 .given .1) (c .before .before .end-by .ensures) (c .before .flag-after .ensures) (c .write-after .ensures _)
+    tells-record _ _ _ _ (m .before .before .before .before .pre) _ _ _ (m .enum-told3 .given .1) (c .before .before .end-by .ensures) (c .before .flag-after .ensures) (c .write-after .ensures _)
 
 returns-4 : tie.Need-returns-4
 returns-4 c =
     let m = c .before .before in
-    tells-over _ _ _ _ (m .before .before .before .before .before .pre) _ _ (m .w .given .1) (c .write-over .ensures _)
+    tells-over _ _ _ _ (m .before .before .before .before .pre) _ _ (m .w .given .1) (c .write-over .ensures _)
 
 pub write-spec : {M : Type 1} → statement M
 write-spec =

@@ -1,2 +1,0 @@
--- What is claimed: which cells and which bytes of storage a chain may change.
-pub mod Confined

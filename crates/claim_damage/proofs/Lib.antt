@@ -1,4 +1,0 @@
--- Laws of damage.
-pub mod Areas
-pub mod Hurts
-pub mod Struck

@@ -1,2 +1,0 @@
--- The model of damage.
-pub mod Damage

@@ -1,2 +1,0 @@
--- What lasts of the writes.
-pub mod Lasting

@@ -1,1 +1,0 @@
-// No code: that the statements admit one outcome each, and shut out the boxes that document 01 names.

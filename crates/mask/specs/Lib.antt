@@ -1,2 +1,0 @@
--- The model of the file mask.
-pub mod Mask
