@@ -18,13 +18,14 @@ channel-fits-requires c κs = search needs
 
 returns-2 : tie.Need-returns-2
 returns-2 c =
-    let b = c .before .before in
+    let b = c .before .before .before in
     bad-channel _ _ _ _ (b .before .position-fits .ensures) (not-false _ (b .if1 .left)) _ (c .before .channel-fits .ensures) (not-true _ (c .if2 .taken))
 
 start-of-requires : tie.Need-start-of-requires
 start-of-requires c κs =
-    let b = c .before .before in
-    let s = b .before .before .before in
+    let k = c .before .before .before in
+    let b = k .before .before .before in
+    let s = b .before .before .before .before in
     (s .pre .cylinders, s .pre .heads, position-on _ _ (sym (b .before .position-fits .ensures) ∙ not-false _ (b .if1 .left)))
 
 add-orders-fit : tie.Need-add-orders-fit
@@ -47,8 +48,8 @@ orders-fit-requires c κs = search needs
 
 returns-3 : tie.Need-returns-3
 returns-3 c =
-    let k = c .before .before .before in
-    let b = k .before .before in
+    let k = c .before .before .before .before .before .before in
+    let b = k .before .before .before in
     by-orders _ _ _ _ (b .before .position-fits .ensures) (not-false _ (b .if1 .left)) _ (k .before .channel-fits .ensures) (not-false _ (k .if2 .left)) _ (c .before .before .start-of .ensures .0) _ (c .orders-fit .ensures)
 
 pub held-fits-spec : {M : Type 1} → statement M
