@@ -121,7 +121,7 @@ fn orders_fit(track: &[u16], o: Orders) -> bool
 }
 
 // Refusal 4. It looks at one track at most.
-// Its fields are locals here: if they are passed as they stand in it, the held state stays in memory all through a go, and a word takes half as long again.
+// The fields of the held state are locals here: passed as they stand in it, they kept it in memory all through a go, and words took longer.
 fn held_fits(g: Shape, h: Held, cells: &[u16]) -> bool
     requires { ⌜ WholePack g (now cells) ⌝ }
     ensures { λ r. ⌜ ((s : List ℕ) → r ≡ heldFits g (world h s (now (cells .entry)))) ⌝ }
