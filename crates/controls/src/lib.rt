@@ -70,24 +70,23 @@ fn addressed(g: Shape, k: Seeking, c: Cylinder, sent: &[u8]) -> Sought
     sought_by(g, k, c, sent)
 }
 
+// Orders before the match: an arm that took them out of the job there would keep the whole job in memory, and every command would pay for it.
 fn arrives(j: Job, x: Sought) -> Report
     ensures { λ r. ⌜ ((t : Tracks) (v : List ℕ) → r ≡ reportOf (arrivalTurn (sight t j v) x)) ⌝ }
 {
+    let orders = ending::orders_after(j, j.task, false);
     match x {
-        Sought::To(c, h) => {
-            let orders = ending::orders_after(j, j.task, false);
-            Report {
-                ending: Ending::Normal,
-                transfer: Transfer::Takes(SEEK),
-                position: Position {
-                    cylinder: c,
-                    head: h,
-                    place: 0,
-                    sense: Sense { byte0: 0, byte1: 0 },
-                },
-                orders,
-            }
-        }
+        Sought::To(c, h) => Report {
+            ending: Ending::Normal,
+            transfer: Transfer::Takes(SEEK),
+            position: Position {
+                cylinder: c,
+                head: h,
+                place: 0,
+                sense: Sense { byte0: 0, byte1: 0 },
+            },
+            orders,
+        },
         Sought::Fails(row) => ending::fails(j, row),
     }
 }

@@ -13,6 +13,7 @@ use table::Aim;
 use table::Bar;
 use table::Licence;
 use table::Rule;
+use table::Serves;
 ghost use mathlib.Core.Path.{_≡_};
 ghost use Prim.Native.Nat.{_≤_};
 ghost use Rattle.cells.specs.Cells.{trackCells, marks, pick, either};
@@ -20,8 +21,8 @@ ghost use Rattle.rows.specs.declared.{Row.Row};
 ghost use Rattle.hunt.specs.Hunt.{WholeTrack, countFirst, spacedTo};
 ghost use Rattle.held.specs.declared.Selection.the-variants.{Nothing, On};
 ghost use Rattle.command.specs.Command.{SelectedOn, equalId, equalIdOrKey, homeDone, recordWritten, task, marksOf, licensed, tallies, onRecord, onNext, onSelected, toNext, toServed, aimed, unlessBarred, planOf};
-ghost use Rattle.task.specs.Inside.{selectedPlace};
-ghost use Rattle.table.specs.Table.{ruleOf, looks, servesData, servesKey};
+ghost use Rattle.task.specs.Inside.{selectedPlace, servedBy};
+ghost use Rattle.table.specs.Table.{ruleOf, looks};
 ghost use Rattle.table.specs.declared.{Aim.Aim};
 ghost use Rattle.turn.specs.Turn.{alone};
 ghost use Rattle.command.specs.declared.Plan.the-variants.{Refuses, Works};
@@ -195,22 +196,23 @@ fn to_next_id(r: Rule, track: &[u16], s: Position, o: Orders) -> Plan
     on_next(r, o, s.head, hunt::next_id(track, s.place))
 }
 
-// Whether the command before serves Read Data.
-fn is_serving_data(before: u8) -> bool
-    ensures { λ r. ⌜ r ≡ servesData (ruleOf before .serves) ⌝ }
+// Whom the command before serves.
+fn serves_after(before: u8) -> Serves
+    ensures { λ r. ⌜ r ≡ ruleOf before .serves ⌝ }
 {
     let r = table::rule_of(before);
-    let serves = r.serves;
-    table::serves_data(serves)
+    r.serves
 }
 
-// Whether it serves Read Key and Data and the searches by key.
-fn is_serving_key(before: u8) -> bool
-    ensures { λ r. ⌜ r ≡ servesKey (ruleOf before .serves) ⌝ }
+// Whether it serves a command with this aim.
+fn is_served(a: Aim, before: u8) -> bool
+    ensures { λ r. ⌜ r ≡ servedBy a before ⌝ }
 {
-    let r = table::rule_of(before);
-    let serves = r.serves;
-    table::serves_key(serves)
+    match a {
+        Aim::NextForData => table::serves_data(serves_after(before)),
+        Aim::NextForKey => table::serves_key(serves_after(before)),
+        _ => false,
+    }
 }
 
 // A task at a place where nothing is selected.
@@ -225,6 +227,7 @@ fn task_at(h: Head, place: u16) -> Plan
     })
 }
 
+// The last arm is for the three aims at the next record: one call, since a plan that comes from several goes through memory.
 fn aimed(r: Rule, track: &[u16], s: Position, o: Orders, a: Aim) -> Plan
     requires { ⌜ WholeTrack (now track) × SelectedOn (marks (now track)) (o .selection) ⌝ }
     ensures { λ x. ⌜ x ≡ aimed r (marksOf (alone (now (track .entry)))) s o a ⌝ }
@@ -234,10 +237,8 @@ fn aimed(r: Rule, track: &[u16], s: Position, o: Orders, a: Aim) -> Plan
         Aim::HomeAddress => task_at(s.head, HOME_PLACE),
         Aim::R0 => on_record(r, o, s.head, Spot::R0, 0),
         Aim::NextId => to_next_id(r, track, s, o),
-        Aim::Next => to_next(r, track, s, o),
-        Aim::NextForData => to_served(r, track, s, o, is_serving_data(o.before)),
-        Aim::NextForKey => to_served(r, track, s, o, is_serving_key(o.before)),
         Aim::Selected => on_selected(r, o, s.head),
+        _ => to_served(r, track, s, o, is_served(a, o.before)),
     }
 }
 

@@ -7,7 +7,7 @@ use Rattle.controls.proofs.arrives.Tie as tie
 
 returns : tie.Need-returns
 unfolding reportOf transferOf arrivalTurn sight positionSought positionAt
-returns c t v = rw (c .before .before .x .given .1, c .orders-after .ensures)
+returns c t v = rw (c .before .x .given .1, c .before .before .before .orders-after .ensures)
 
 returns-2 : tie.Need-returns-2
 unfolding arrivalTurn
@@ -15,4 +15,4 @@ returns-2 c t v = rw (c .before .before .x2 .given .1) (c .fails .ensures t v)
 
 pub arrives-spec : {M : Type 1} → statement M
 arrives-spec =
-    tie.close (tie.spec (λ c. search needs) (λ c κs. search needs) (λ c. search needs) (λ c κs. search needs) returns returns-2)
+    tie.close (tie.spec (λ c κs. search needs) (λ c. search needs) (λ c. search needs) (λ c κs. search needs) returns returns-2)

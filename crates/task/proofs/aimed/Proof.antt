@@ -1,11 +1,31 @@
--- A line an aim, as in the model.
+-- A line an aim, as in the model; the last arm's three aims are at the next record, unless the command before serves them.
+use mathlib.Core.Path.{_≡_, refl, _∙_}
+use mathlib.Core.List.{[], _∷_}
+use types.Run.{OneOf, miss}
+use denote.Enum.Declared.{tagOf}
 use native.Mathlib.Omega.{arith}
 use Rattle.hunt.specs.Hunt.{countFirst}
-use Rattle.command.specs.Command.{aimed}
+use Rattle.held.specs.declared.{Position.Position, Orders.Orders}
+use Rattle.table.specs.declared.{Aim.Aim, Rule.Rule}
+use Rattle.table.proofs.Aim.{the-type}
+use Rattle.command.specs.Command.{Marks, toServed, aimed}
+use Rattle.task.specs.Inside.{servedBy}
 use Rattle.task.proofs.Laws.{selected-place}
 use borrow.Author.Needs.{needs}
 use Rattle.task.proofs.aimed.Statement.{statement}
 use Rattle.task.proofs.aimed.Tie as tie
+
+next-aimed : (r : Rule) (m : Marks) (s : Position) (o : Orders) (a : Aim)
+    → OneOf (4 ∷ 5 ∷ 6 ∷ []) (tagOf the-type a) → toServed r m s o (servedBy a (o .before)) ≡ aimed r m s o a
+unfolding aimed toServed servedBy
+next-aimed r m s o Aim.Next k = refl
+next-aimed r m s o Aim.NextForData k = refl
+next-aimed r m s o Aim.NextForKey k = refl
+next-aimed r m s o Aim.Stays k = absurd (miss (4 ∷ 5 ∷ 6 ∷ []) 0 tt k)
+next-aimed r m s o Aim.HomeAddress k = absurd (miss (4 ∷ 5 ∷ 6 ∷ []) 1 tt k)
+next-aimed r m s o Aim.R0 k = absurd (miss (4 ∷ 5 ∷ 6 ∷ []) 2 tt k)
+next-aimed r m s o Aim.NextId k = absurd (miss (4 ∷ 5 ∷ 6 ∷ []) 3 tt k)
+next-aimed r m s o Aim.Selected k = absurd (miss (4 ∷ 5 ∷ 6 ∷ []) 7 tt k)
 
 on-record-requires : tie.Need-on-record-requires
 unfolding countFirst
@@ -34,19 +54,10 @@ returns-4 c = rw (c .before .enum-told4 .given .1) (c .to-next-id .ensures)
 
 returns-5 : tie.Need-returns-5
 unfolding aimed
-returns-5 c = rw (c .before .enum-told5 .given .1) (c .to-next .ensures)
+returns-5 c = rw (c .before .enum-told5 .given .1) (c .on-selected .ensures)
 
 returns-6 : tie.Need-returns-6
-unfolding aimed
-returns-6 c = rw (c .before .before .enum-told6 .given .1, ← c .before .is-serving-data .ensures) (c .to-served .ensures)
-
-returns-7 : tie.Need-returns-7
-unfolding aimed
-returns-7 c = rw (c .before .before .enum-told7 .given .1, ← c .before .is-serving-key .ensures) (c .to-served2 .ensures)
-
-returns-8 : tie.Need-returns-8
-unfolding aimed
-returns-8 c = rw (c .before .enum-told8 .given .1) (c .on-selected .ensures)
+returns-6 c = rw (← c .before .is-served .ensures) (c .to-served .ensures) ∙ next-aimed _ _ _ _ _ (c .before .before .match .keys6)
 
 pub aimed-spec : {M : Type 1} → statement M
 aimed-spec =
@@ -61,20 +72,12 @@ aimed-spec =
     (λ c. search needs)
     (λ c κs. search needs)
     (λ c. search needs)
-    (λ c κs. search needs)
-    (λ c. search needs)
-    (λ c κs. search needs)
-    (λ c κs. search needs)
-    (λ c. search needs)
-    (λ c κs. search needs)
-    (λ c κs. search needs)
-    (λ c. search needs)
     on-selected-requires
+    (λ c κs. search needs)
+    (λ c κs. search needs)
     returns
     returns-2
     returns-3
     returns-4
     returns-5
-    returns-6
-    returns-7
-    returns-8)
+    returns-6)
