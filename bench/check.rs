@@ -19,7 +19,7 @@ pub const PART: Part = Part {
     rounds: 21,
     loops: PLAIN.len(),
     wanted: Some(0.25),
-    wanted_before: None,
+    wanted_before: Some(1.05),
     compare,
     times,
     chains: Vec::new,
