@@ -22,7 +22,7 @@ ghost use lib.ListN.{length, getD};
 ghost use Rattle.cells.specs.Cells.{be16};
 ghost use Rattle.hunt.specs.Hunt.{WholeTrack};
 ghost use Rattle.turn.specs.Turn.{Tracks, alone, reportOf, filled};
-ghost use Rattle.command.specs.Command.{sight, senseBytes, soughtBy, addressed, arrivalTurn, seekTurn, maskedTurn, maskTurn, spaceTurn, controlTurn};
+ghost use Rattle.command.specs.Command.{sight, senseBytes, seekBytes, soughtBy, addressed, arrivalTurn, seekTurn, maskedTurn, maskTurn, spaceTurn, controlTurn};
 
 // The bytes that Sense gives.
 const SENSE: u32 = 6;
@@ -48,7 +48,7 @@ fn two(sent: &[u8], at: usize) -> u16
 
 // What the six bytes of a seek come to.
 fn sought_by(g: Shape, k: Seeking, c: Cylinder, sent: &[u8]) -> Sought
-    requires { ⌜ 6 ≤ length (now sent) ⌝ }
+    requires { ⌜ seekBytes ≤ length (now sent) ⌝ }
     ensures { λ r. ⌜ r ≡ soughtBy g k c (now (sent .entry)) ⌝ }
 {
     let bb = two(sent, BB);
@@ -70,7 +70,7 @@ fn addressed(g: Shape, k: Seeking, c: Cylinder, sent: &[u8]) -> Sought
     sought_by(g, k, c, sent)
 }
 
-// Orders before the match: an arm that took them out of the job there would keep the whole job in memory, and every command would pay for it.
+// The orders come before the match: taken in its arm, they kept the whole job in memory, and every command paid (DECISIONS 97).
 fn arrives(j: Job, x: Sought) -> Report
     ensures { λ r. ⌜ ((t : Tracks) (v : List ℕ) → r ≡ reportOf (arrivalTurn (sight t j v) x)) ⌝ }
 {

@@ -73,7 +73,7 @@ fn digit(d: u16) -> u8
 
 // Three records, the head at place 0, and a Search ID that none of them satisfies, with a TIC back to it.
 fn figure_11() {
-    let mut cells = [0u16; 4096];
+    let mut cells = [0u16; cells::TRACK_CELLS];
     lay_track(&mut cells);
     let mut storage = [0u8; 160];
     lay_chain(&mut storage);
@@ -117,7 +117,7 @@ fn lay_record(track: &mut [u16], marker: usize, flag: u8, number: u8)
 {
     recording::write_count(track, marker + 1, flag, &[0, 0, 0, 0, number, 0, 0, 1]);
     recording::write_area(track, marker + 12, &[number], 1);
-    track[marker] = 512;
+    track[marker] = cells::MARKER;
 }
 
 // At 72 the address word; at 128 the Search ID, with five bytes at 144 that are in no count; at 136 the TIC.
@@ -176,7 +176,7 @@ fn figure_12() {
 fn start_answer(storage: &mut [u8]) -> u8
     ensures { λ r. ⌜ r < 8 ⌝ }
 {
-    let cells = [0u16; 4096];
+    let cells = [0u16; cells::TRACK_CELLS];
     let g = Shape {
         cylinders: 1,
         heads: 1,

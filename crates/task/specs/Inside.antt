@@ -1,4 +1,4 @@
--- What the functions inside the crate promise one another. No rule of document 01's.
+-- What the functions inside the crate promise one another. No rule that `command:Command` does not say.
 use Prim.Native.Nat.{ℕ}
 use mathlib.Core.Bool.{Bool, false}
 use Rattle.hunt.specs.Hunt.{countFirst}
@@ -11,13 +11,13 @@ unfoldable pub selectedPlace : Selection → ℕ
 selectedPlace Selection.Nothing = 0
 selectedPlace (Selection.On spot) = countFirst spot
 
--- whether the command before serves one with this aim
-unfoldable pub servedBy : Aim → ℕ → Bool
-servedBy Aim.NextForData before = servesData (ruleOf before .serves)
-servedBy Aim.NextForKey before = servesKey (ruleOf before .serves)
-servedBy Aim.Stays before = false
-servedBy Aim.HomeAddress before = false
-servedBy Aim.R0 before = false
-servedBy Aim.NextId before = false
-servedBy Aim.Next before = false
-servedBy Aim.Selected before = false
+-- whether the command before serves one with this aim, as `command:Command.aimed` has it; the others ask for nobody
+unfoldable pub isServed : Aim → ℕ → Bool
+isServed Aim.NextForData before = servesData (ruleOf before .serves)
+isServed Aim.NextForKey before = servesKey (ruleOf before .serves)
+isServed Aim.Stays before = false
+isServed Aim.HomeAddress before = false
+isServed Aim.R0 before = false
+isServed Aim.NextId before = false
+isServed Aim.Next before = false
+isServed Aim.Selected before = false

@@ -21,7 +21,7 @@ ghost use Rattle.rows.specs.declared.{Row.Row};
 ghost use Rattle.hunt.specs.Hunt.{WholeTrack, countFirst, spacedTo};
 ghost use Rattle.held.specs.declared.Selection.the-variants.{Nothing, On};
 ghost use Rattle.command.specs.Command.{SelectedOn, equalId, equalIdOrKey, homeDone, recordWritten, task, marksOf, licensed, tallies, onRecord, onNext, onSelected, toNext, toServed, aimed, unlessBarred, planOf};
-ghost use Rattle.task.specs.Inside.{selectedPlace, servedBy};
+ghost use Rattle.task.specs.Inside.{selectedPlace, isServed};
 ghost use Rattle.table.specs.Table.{ruleOf, looks};
 ghost use Rattle.table.specs.declared.{Aim.Aim};
 ghost use Rattle.turn.specs.Turn.{alone};
@@ -77,7 +77,7 @@ fn record_licensed(before: u8, whole: bool) -> bool
 }
 
 // Whether the command before was a search or a read.
-fn looked(before: u8) -> bool
+fn follows_look(before: u8) -> bool
     ensures { λ r. ⌜ r ≡ looks (ruleOf before .act) ⌝ }
 {
     let r = table::rule_of(before);
@@ -91,7 +91,7 @@ fn licensed(l: Licence, o: Orders) -> bool
 {
     match l {
         Licence::Any => true,
-        Licence::Look => looked(o.before),
+        Licence::Look => follows_look(o.before),
         Licence::HomeAddress => home_done(o.before, o.whole),
         Licence::WrittenOrEqual => record_licensed(o.before, o.whole),
         Licence::EqualIdOrKey => equal_id_or_key(o.before, o.whole),
@@ -196,21 +196,21 @@ fn to_next_id(r: Rule, track: &[u16], s: Position, o: Orders) -> Plan
     on_next(r, o, s.head, hunt::next_id(track, s.place))
 }
 
-// Whom the command before serves.
-fn serves_after(before: u8) -> Serves
-    ensures { λ r. ⌜ r ≡ ruleOf before .serves ⌝ }
+// Whom a command serves.
+fn serves_of(code: u8) -> Serves
+    ensures { λ r. ⌜ r ≡ ruleOf code .serves ⌝ }
 {
-    let r = table::rule_of(before);
+    let r = table::rule_of(code);
     r.serves
 }
 
-// Whether it serves a command with this aim.
+// Whether the command before serves one with this aim.
 fn is_served(a: Aim, before: u8) -> bool
-    ensures { λ r. ⌜ r ≡ servedBy a before ⌝ }
+    ensures { λ r. ⌜ r ≡ isServed a before ⌝ }
 {
     match a {
-        Aim::NextForData => table::serves_data(serves_after(before)),
-        Aim::NextForKey => table::serves_key(serves_after(before)),
+        Aim::NextForData => table::serves_data(serves_of(before)),
+        Aim::NextForKey => table::serves_key(serves_of(before)),
         _ => false,
     }
 }
@@ -227,7 +227,7 @@ fn task_at(h: Head, place: u16) -> Plan
     })
 }
 
-// The last arm is for the three aims at the next record: one call, since a plan that comes from several goes through memory.
+// The last arm is for Next, NextForData and NextForKey: with a call of `to_served` for each of them, plans went through memory (DECISIONS 97).
 fn aimed(r: Rule, track: &[u16], s: Position, o: Orders, a: Aim) -> Plan
     requires { ⌜ WholeTrack (now track) × SelectedOn (marks (now track)) (o .selection) ⌝ }
     ensures { λ x. ⌜ x ≡ aimed r (marksOf (alone (now (track .entry)))) s o a ⌝ }

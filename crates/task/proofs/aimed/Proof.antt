@@ -9,15 +9,15 @@ use Rattle.held.specs.declared.{Position.Position, Orders.Orders}
 use Rattle.table.specs.declared.{Aim.Aim, Rule.Rule}
 use Rattle.table.proofs.Aim.{the-type}
 use Rattle.command.specs.Command.{Marks, toServed, aimed}
-use Rattle.task.specs.Inside.{servedBy}
+use Rattle.task.specs.Inside.{isServed}
 use Rattle.task.proofs.Laws.{selected-place}
 use borrow.Author.Needs.{needs}
 use Rattle.task.proofs.aimed.Statement.{statement}
 use Rattle.task.proofs.aimed.Tie as tie
 
 next-aimed : (r : Rule) (m : Marks) (s : Position) (o : Orders) (a : Aim)
-    → OneOf (4 ∷ 5 ∷ 6 ∷ []) (tagOf the-type a) → toServed r m s o (servedBy a (o .before)) ≡ aimed r m s o a
-unfolding aimed toServed servedBy
+    → OneOf (4 ∷ 5 ∷ 6 ∷ []) (tagOf the-type a) → toServed r m s o (isServed a (o .before)) ≡ aimed r m s o a
+unfolding aimed toServed isServed
 next-aimed r m s o Aim.Next k = refl
 next-aimed r m s o Aim.NextForData k = refl
 next-aimed r m s o Aim.NextForKey k = refl

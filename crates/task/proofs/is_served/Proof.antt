@@ -8,13 +8,13 @@ use denote.Enum.Declared.{tagOf}
 use Rattle.table.specs.Table.{servesData, servesKey}
 use Rattle.table.specs.declared.{Aim.Aim}
 use Rattle.table.proofs.Aim.{the-type}
-use Rattle.task.specs.Inside.{servedBy}
+use Rattle.task.specs.Inside.{isServed}
 use borrow.Author.Needs.{needs}
 use Rattle.task.proofs.is_served.Statement.{statement}
 use Rattle.task.proofs.is_served.Tie as tie
 
-others : (a : Aim) (before : ℕ) → OneOf (0 ∷ 1 ∷ 2 ∷ 3 ∷ 4 ∷ 7 ∷ []) (tagOf the-type a) → false ≡ servedBy a before
-unfolding servedBy
+others : (a : Aim) (before : ℕ) → OneOf (0 ∷ 1 ∷ 2 ∷ 3 ∷ 4 ∷ 7 ∷ []) (tagOf the-type a) → false ≡ isServed a before
+unfolding isServed
 others Aim.NextForData b k = absurd (miss (0 ∷ 1 ∷ 2 ∷ 3 ∷ 4 ∷ 7 ∷ []) 5 tt k)
 others Aim.NextForKey b k = absurd (miss (0 ∷ 1 ∷ 2 ∷ 3 ∷ 4 ∷ 7 ∷ []) 6 tt k)
 others Aim.Stays b k = refl
@@ -25,12 +25,12 @@ others Aim.Next b k = refl
 others Aim.Selected b k = refl
 
 returns : tie.Need-returns
-unfolding servedBy
-returns c = rw (c .before .before .enum-told .given .1) (c .serves-data .ensures ∙ ap servesData (c .before .serves-after .ensures))
+unfolding isServed
+returns c = rw (c .before .before .enum-told .given .1) (c .serves-data .ensures ∙ ap servesData (c .before .serves-of .ensures))
 
 returns-2 : tie.Need-returns-2
-unfolding servedBy
-returns-2 c = rw (c .before .before .enum-told2 .given .1) (c .serves-key .ensures ∙ ap servesKey (c .before .serves-after2 .ensures))
+unfolding isServed
+returns-2 c = rw (c .before .before .enum-told2 .given .1) (c .serves-key .ensures ∙ ap servesKey (c .before .serves-of2 .ensures))
 
 returns-3 : tie.Need-returns-3
 returns-3 c = others _ _ (c .match .keys3)

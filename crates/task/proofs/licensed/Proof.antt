@@ -10,7 +10,7 @@ returns c = rw (c .enum-told .given .1)
 
 returns-2 : tie.Need-returns-2
 unfolding licensed
-returns-2 c = rw (c .before .enum-told2 .given .1) (c .looked .ensures)
+returns-2 c = rw (c .before .enum-told2 .given .1) (c .follows-look .ensures)
 
 returns-3 : tie.Need-returns-3
 unfolding licensed

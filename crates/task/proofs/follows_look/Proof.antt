@@ -3,11 +3,11 @@ use mathlib.Core.Path.{ap, _∙_}
 use Rattle.table.specs.Table.{looks}
 use Rattle.table.specs.declared.{Rule.Rule}
 use borrow.Author.Needs.{needs}
-use Rattle.task.proofs.looked.Statement.{statement}
-use Rattle.task.proofs.looked.Tie as tie
+use Rattle.task.proofs.follows_look.Statement.{statement}
+use Rattle.task.proofs.follows_look.Tie as tie
 
 returns : tie.Need-returns
 returns c = c .is-look .ensures ∙ ap (λ (r : Rule). looks (r .act)) (c .before .rule-of .ensures)
 
-pub looked-spec : {M : Type 1} → statement M
-looked-spec = tie.close (tie.spec (λ c κs. search needs) (λ c κs. search needs) returns)
+pub follows-look-spec : {M : Type 1} → statement M
+follows-look-spec = tie.close (tie.spec (λ c κs. search needs) (λ c κs. search needs) returns)
