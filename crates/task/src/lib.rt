@@ -227,7 +227,7 @@ fn task_at(h: Head, place: u16) -> Plan
     })
 }
 
-// The last arm is for Next, NextForData and NextForKey: with a call of `to_served` for each of them, plans went through memory (DECISIONS 97).
+// The last arm is for Next, NextForData and NextForKey: with more than one call of `to_served` plans went through memory (DECISIONS 97).
 fn aimed(r: Rule, track: &[u16], s: Position, o: Orders, a: Aim) -> Plan
     requires { ⌜ WholeTrack (now track) × SelectedOn (marks (now track)) (o .selection) ⌝ }
     ensures { λ x. ⌜ x ≡ aimed r (marksOf (alone (now (track .entry)))) s o a ⌝ }
