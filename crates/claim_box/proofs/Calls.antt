@@ -6,6 +6,7 @@ use mathlib.Core.List.{List}
 use native.Mathlib.Omega.{arith}
 use lib.ListN.{length, getD}
 use Rattle.cells.specs.Cells.{pick, trackCells}
+use Rattle.cells.proofs.Laws.{length-overlay}
 use Rattle.cells.proofs.Tests.{pick-all}
 use Rattle.words.specs.declared.{Begun.Begun, Tested.Tested}
 use Rattle.words.specs.declared.Begun.the-variants.{Begins, Refused}
@@ -72,6 +73,11 @@ module _ (w : World) where
   starts-storage room x (alike p q) i h = ap (λ (y : List ℕ). getD y i 0) p
   starts-storage room x (refuses e) i h = ap (λ (y : Hears). getD (y .left .storage) i 0) e ∙ overlay-kept (w .storage) 68 _ i (omega arith) h
 
+  starts-long : 80 ≤ length (w .storage) → (x : Hears) → Starts w x → length (x .left .storage) ≡ length (w .storage)
+  unfolding refusesStart
+  starts-long room x (alike p q) = ap length p
+  starts-long room x (refuses e) = ap (λ (y : Hears). length (y .left .storage)) e ∙ length-overlay (w .storage) 68 _ (omega arith)
+
 module _ (g : Shape) (w : World) where
   abbrev heard : Guarded → Hears
   heard x = guards x w (pick (w .held .channel .going) (hears ChainGoing w) (begins w (begunBy (w .storage))))
@@ -86,6 +92,11 @@ module _ (g : Shape) (w : World) where
   start-storage Passes p i h = starts-storage w (passes-legal g w p .room) (heard Passes) (start-by Passes) i h
   start-storage (Answers a) p i h = refl
 
+  start-long : (x : Guarded) → guardOf g w ≡ x → length (heard x .left .storage) ≡ length (w .storage)
+  unfolding guards
+  start-long Passes p = starts-long w (passes-legal g w p .room) (heard Passes) (start-by Passes)
+  start-long (Answers a) p = refl
+
 module _ (g : Shape) (n : ℕ) (w : World) where
   SameCell : ℕ → World → Type 0
   SameCell i v = getD (v .cells) i 0 ≡ getD (w .cells) i 0
@@ -93,13 +104,28 @@ module _ (g : Shape) (n : ℕ) (w : World) where
   SameByte : ℕ → World → Type 0
   SameByte i v = getD (v .storage) i 0 ≡ getD (w .storage) i 0
 
+  -- where nothing is asked of the words, nothing has to pass
+  asked : (x : Guarded) → ifPasses x true ≡ true
+  unfolding ifPasses
+  asked Passes = refl
+  asked (Answers a) = refl
+
+  SameCells : World → Type 0
+  SameCells v = length (v .cells) ≡ length (w .cells)
+
+  SameStorage : World → Type 0
+  SameStorage v = length (v .storage) ≡ length (w .storage)
+
   pub call-confined : CallConfined g n w
-  unfolding starts SameCell SameByte
+  unfolding starts SameCell SameByte SameCells SameStorage
   call-confined = record {
     cells = λ i e. go-confined g n w (SameCell i) refl (sparesCell g i n w) (λ L f. run-confined g n w L .cells i f) e;
     track = λ m i h e. go-confined g n w (SameCell (m * trackCells + i)) refl (sparesTrack g m n w) (λ L f. run-confined g n w L .track m i h f) e;
     storage = λ i e. go-confined g n w (SameByte i) refl (sparesByte g i n w) (λ L f. run-confined g n w L .storage i f) e;
+    long = go-confined g n w SameCells refl true (λ L f. run-confined g n w L .long) (asked (guardOf g w));
+    storage-long = go-confined g n w SameStorage refl true (λ L f. run-confined g n w L .storage-long) (asked (guardOf g w));
     start-cells = starts-cells w _ (start-by g w (guardOf g w));
     start-else = λ h. starts-else w _ (start-by g w (guardOf g w)) h;
     start-storage = λ i h. start-storage g w (guardOf g w) refl i h;
+    start-long = start-long g w (guardOf g w) refl;
   }

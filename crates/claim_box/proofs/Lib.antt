@@ -6,6 +6,7 @@ pub mod Pinned
 pub mod Reading
 pub mod Stepped
 pub mod Demand3
+pub mod Example
 pub mod Outside
 pub mod Within
 pub mod Acting

@@ -135,5 +135,6 @@ module _ (g : Shape) (w : World) (L : Legal g w) where
     elsewhere = λ i o. takes-cells (next w) in-storage i (none-elsewhere g w (next w) i (out-test start trackCells i o));
     checks = λ d e row f. checks-by d (next w) in-storage e row f;
     long = step-sizes g w L .cells;
+    storage-long = step-sizes g w L .storage;
     storage = λ i e. takes-storage (next w) in-storage i e;
   }

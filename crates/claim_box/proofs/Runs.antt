@@ -23,6 +23,7 @@ use Rattle.command.specs.Command.{licensed}
 use Rattle.channel.specs.Channel.{World}
 use Rattle.chain.specs.Step.{under, trackUnder, next, step, run, testedWrites, Legal}
 use Rattle.chain.proofs.Legal.{step-legal}
+use Rattle.chain.proofs.Runs.{run-sizes}
 use Rattle.claim_box.specs.Confined.{among, actReaches, bars, mayChange, wordChanges, changes, spares, sparesCell, sparesByte, writesOn, sparesTrack, RunConfined}
 use Rattle.claim_box.proofs.Outside.{out-test}
 use Rattle.claim_box.proofs.NextWord.{none-elsewhere, step-confined}
@@ -95,4 +96,6 @@ module _ (g : Shape) where
         run-keeps _ (λ (v : World). getD (v .cells) (m * trackCells + i) 0)
         (λ v K f. step-confined g v K .cells (m * trackCells + i) (off-writes v m i h f)) n w L e;
     storage = λ i e. run-keeps _ (λ (v : World). getD (v .storage) i 0) (λ v K f. step-confined g v K .storage i f) n w L e;
+    long = run-sizes g n w L .cells;
+    storage-long = run-sizes g n w L .storage;
   }

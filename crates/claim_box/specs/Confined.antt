@@ -154,6 +154,7 @@ pub record StepConfined (g : Shape) (w : World) : Type 0 where
   pub elsewhere : (i : ℕ) → (i < under g (w .held)) ⊎ (under g (w .held) + trackCells ≤ i) → getD (step g w .cells) i gap ≡ getD (w .cells) i gap
   pub checks : (d : Word) → next w ≡ Tested.Obey d → (row : Row) → turnOf g w d .ending ≡ Ending.Check row → step g w .cells ≡ w .cells
   pub long : length (step g w .cells) ≡ length (w .cells)
+  pub storage-long : length (step g w .storage) ≡ length (w .storage)
   -- ".. and in bytes 64 to 71 by a stored status word"
   pub storage : (i : ℕ) → stores g w i ≡ false → getD (step g w .storage) i 0 ≡ getD (w .storage) i 0
 
@@ -183,6 +184,8 @@ pub record RunConfined (g : Shape) (n : ℕ) (w : World) : Type 0 where
   pub track : (m i : ℕ) → i < trackCells → sparesTrack g m n w ≡ true
       → getD (run g n w .cells) (m * trackCells + i) gap ≡ getD (w .cells) (m * trackCells + i) gap
   pub storage : (i : ℕ) → sparesByte g i n w ≡ true → getD (run g n w .storage) i 0 ≡ getD (w .storage) i 0
+  pub long : length (run g n w .cells) ≡ length (w .cells)
+  pub storage-long : length (run g n w .storage) ≡ length (w .storage)
 
 -- ---- what a host's call changes: nothing where it is refused; a start no cell, and of storage bytes 68 and 69 by answer 5
 
@@ -191,9 +194,12 @@ pub record CallConfined (g : Shape) (n : ℕ) (w : World) : Type 0 where
   pub track : (m i : ℕ) → i < trackCells → ifPasses (guardOf g w) (sparesTrack g m n w) ≡ true
       → getD (goes g n w .left .cells) (m * trackCells + i) gap ≡ getD (w .cells) (m * trackCells + i) gap
   pub storage : (i : ℕ) → ifPasses (guardOf g w) (sparesByte g i n w) ≡ true → getD (goes g n w .left .storage) i 0 ≡ getD (w .storage) i 0
+  pub long : length (goes g n w .left .cells) ≡ length (w .cells)
+  pub storage-long : length (goes g n w .left .storage) ≡ length (w .storage)
   pub start-cells : starts g w .left .cells ≡ w .cells
   pub start-else : (starts g w .answer ≡ Answer.BadStart → ⊥) → starts g w .left .storage ≡ w .storage
   pub start-storage : (i : ℕ) → among 68 2 i ≡ false → getD (starts g w .left .storage) i 0 ≡ getD (w .storage) i 0
+  pub start-long : length (starts g w .left .storage) ≡ length (w .storage)
 
 -- ---- "no write that doesn't fit changes a cell, whichever row it gets; if no earlier row holds it gets 00 40 and moves the lesser of count and 8."
 

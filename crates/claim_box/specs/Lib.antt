@@ -5,6 +5,7 @@ pub mod Lost
 pub mod Limits
 pub mod Reading
 pub mod Demand3
+pub mod Example
 pub mod Confined
 pub mod Boxes
 pub mod Exports
