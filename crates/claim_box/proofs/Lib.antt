@@ -4,10 +4,10 @@ pub mod Figures
 pub mod Lost
 pub mod Pinned
 pub mod Reading
+pub mod Outside
 pub mod Stepped
 pub mod Demand3
 pub mod Example
-pub mod Outside
 pub mod Within
 pub mod Acting
 pub mod Commands

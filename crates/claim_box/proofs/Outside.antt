@@ -1,18 +1,21 @@
--- Outside of what is laid over nothing changes, by the test of the claims.
-use Prim.Native.Nat.{ℕ, _+_, _<_, _≤_}
+-- Outside of what is laid over nothing changes, by the test of the claims; nor on another track.
+use Prim.Native.Nat.{ℕ, _+_, _-_, _*_, _<_, _≤_, min}
 use mathlib.Core.Path.{_≡_, refl, sym, ap, _∙_}
 use mathlib.Core.Bool.{Bool, true, false, false≢true}
 use mathlib.Core.List.{List}
 use mathlib.Core.Logic.{_⊎_, inl, inr, ⊎-elim}
 use native.Mathlib.Omega.{arith}
 use native.Mathlib.Decide.{decLt}
-use lib.ListN.{length, getD}
+use lib.ListN.{length, getD, drop, length-take, length-drop}
+use lib.Seq.{getD-take, getD-drop, ext-getD}
 use lib.Dec.{ltb, leb}
 use borrow.Author.Tests.{ltb-true, ltb-false, leb-true, le-leb, lt-leb, le-ltb}
-use Rattle.cells.specs.Cells.{pick, both, either, overlay}
+use Rattle.cells.specs.Cells.{pick, both, either, part, overlay, trackCells}
 use Rattle.cells.proofs.Laws.{getD-part, part-overlay, overlay-before, overlay-behind}
 use Rattle.cells.proofs.Tests.{first-of, second-of}
+use Rattle.pack.specs.Pack.{trackAt}
 use Rattle.claim_box.specs.Confined.{among}
+use Rattle.claim_box.specs.Demand3.{track}
 
 -- what holds of each side of a choice, by its test, holds of the choice
 pub pick-by : {A : Type 0} (P : A → Type 0) (b : Bool) {x y : A} → (b ≡ true → P x) → (b ≡ false → P y) → P (pick b x y)
@@ -52,3 +55,24 @@ module _ (l : List ℕ) (at : ℕ) (v : List ℕ) where
 
   pub overlay-inside : (j : ℕ) → at + length v ≤ length l → j < length v → getD (overlay l at v) (at + j) 0 ≡ getD v j 0
   overlay-inside j h k = sym (getD-part (overlay l at v) at (length v) j k) ∙ ap (λ (x : List ℕ). getD x j 0) (part-overlay l at v h)
+
+-- ---- another track
+
+-- its cells lie before or behind
+pub apart : (m k i : ℕ) → (m ≡ k → ⊥) → i < trackCells → (m * trackCells + i < k * trackCells) ⊎ (k * trackCells + trackCells ≤ m * trackCells + i)
+apart m k i d h = go (decLt m k)
+  where
+    go : Dec (m < k) → (m * 4096 + i < k * 4096) ⊎ (k * 4096 + 4096 ≤ m * 4096 + i)
+    go (yes q) = inl (omega arith)
+    go (no q) = inr (omega arith)
+
+-- the same cells are the same track
+pub same-track : (c c′ : List ℕ) (m : ℕ) → length c′ ≡ length c → ((i : ℕ) → i < trackCells → getD c′ (m * trackCells + i) 0 ≡ getD c (m * trackCells + i) 0)
+    → track c′ m ≡ track c m
+unfolding trackAt part
+same-track c c′ m e f =
+    ext-getD 0 _ _ (simp (length-take, length-drop) (ap (λ (k : ℕ). min 4096 (k - m * 4096)) e))
+    (λ i h.
+    let k : i < 4096 = omega (arith, length-take 4096 (drop (m * 4096) c′)) in
+    getD-take 4096 (drop (m * 4096) c′) i 0 k ∙ getD-drop (m * 4096) c′ i 0 ∙ f i k
+    ∙ sym (getD-take 4096 (drop (m * 4096) c) i 0 k ∙ getD-drop (m * 4096) c i 0))

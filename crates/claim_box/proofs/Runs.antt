@@ -25,7 +25,7 @@ use Rattle.chain.specs.Step.{under, trackUnder, next, step, run, testedWrites, 
 use Rattle.chain.proofs.Legal.{step-legal}
 use Rattle.chain.proofs.Runs.{run-sizes}
 use Rattle.claim_box.specs.Confined.{among, actReaches, bars, mayChange, wordChanges, changes, spares, sparesCell, sparesByte, writesOn, sparesTrack, RunConfined}
-use Rattle.claim_box.proofs.Outside.{out-test}
+use Rattle.claim_box.proofs.Outside.{out-test, apart}
 use Rattle.claim_box.proofs.NextWord.{none-elsewhere, step-confined}
 
 module _ (g : Shape) where
@@ -63,14 +63,6 @@ module _ (g : Shape) where
       ∙ both-never (among (under g (w .held)) trackCells i)
   word-spares w (Jump a) i e = refl
   word-spares w (Bad cause) i e = refl
-
-  -- cells of another track
-  apart : (m k i : ℕ) → (m ≡ k → ⊥) → i < 4096 → (m * 4096 + i < k * 4096) ⊎ (k * 4096 + 4096 ≤ m * 4096 + i)
-  apart m k i d h = go (decLt m k)
-    where
-      go : Dec (m < k) → (m * 4096 + i < k * 4096) ⊎ (k * 4096 + 4096 ≤ m * 4096 + i)
-      go (yes q) = inl (omega arith)
-      go (no q) = inr (omega arith)
 
   off-spares : (w : World) (m i : ℕ) → i < trackCells → eqb m (trackNo g (w .held .position .cylinder) (w .held .position .head)) ≡ false
       → among (under g (w .held)) trackCells (m * trackCells + i) ≡ false

@@ -36,6 +36,7 @@ use Rattle.chain.proofs.Fits.{selected-on, ordered}
 use Rattle.claim_track.specs.Damage.{any, sameArea}
 use Rattle.claim_track.proofs.Hurts.{Hurt, damaged-hurt, same-hurt, same-area}
 use Rattle.claim_track.proofs.Struck.{lies, command-spared, command-struck}
+use Rattle.claim_box.proofs.Outside.{apart, same-track}
 use Rattle.claim_box.specs.Demand3.{track, Harmed, nextWrites, isIt, readsIt, Alike, dataCheck, DataChecked}
 
 -- ---- how the channel ends a Data Check: no byte was moved, and the chain is at its end
@@ -69,23 +70,9 @@ module _ (s : Position) (o : Orders) (r : List TrackArea) (d : Word) (p : Part) 
 -- ---- the tracks
 
 module _ (n s : ℕ) (x : Area) (c c′ : List ℕ) (harm : Harmed n s x c c′) where
-  split : (m : ℕ) → (n ≡ m → ⊥) → (i : ℕ) → i < trackCells → (m * trackCells + i < n * trackCells) ⊎ (n * trackCells + trackCells ≤ m * trackCells + i)
-  split m d i h = go (decLt m n)
-    where
-      go : Dec (m < n) → (m * 4096 + i < n * 4096) ⊎ (n * 4096 + 4096 ≤ m * 4096 + i)
-      go (yes q) = inl (omega arith)
-      go (no q) = inr (omega arith)
-
   -- every other track is the same
   other-track : (m : ℕ) → (n ≡ m → ⊥) → track c m ≡ track c′ m
-  unfolding trackAt part
-  other-track m d =
-      ext-getD 0 _ _ (simp (length-take, length-drop) (ap (λ (k : ℕ). min 4096 (k - m * 4096)) (sym (harm .long))))
-      (λ i h.
-      let k : i < 4096 = omega (arith, length-take 4096 (drop (m * 4096) c)) in
-      getD-take 4096 (drop (m * 4096) c) i 0 k ∙ getD-drop (m * 4096) c i 0
-      ∙ sym (harm .elsewhere (m * 4096 + i) (split m d i k))
-      ∙ sym (getD-take 4096 (drop (m * 4096) c′) i 0 k ∙ getD-drop (m * 4096) c′ i 0))
+  other-track m d = sym (same-track c c′ m (harm .long) (λ i h. harm .elsewhere (m * trackCells + i) (apart m n i (λ e. d (sym e)) h)))
 
   -- and track n is hurt in that area
   track-hurt : (m : ℕ) → Hurt (λ (a : Area). both (eqb n m) (sameArea x a)) (track c m) (track c′ m)

@@ -1,0 +1,5 @@
+-- What is claimed, proved: bytes, then soundness.
+pub mod Bytes
+pub mod Turns
+pub mod Words
+pub mod Soundness
