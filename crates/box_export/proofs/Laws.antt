@@ -22,7 +22,7 @@ call-eq : {a b : ℕ} {v w s t c d : List ℕ} → a ≡ b → v ≡ w → s ≡
 call-eq p q r u = λ i. record { answer = p i; held = q i; storage = r i; cells = u i }
 
 -- bytes that say a state are of the right number
-kept-long : (v : List ℕ) (h : Held) → kept v ≡ Holds h → length v ≡ heldBytes
+pub kept-long : (v : List ℕ) (h : Held) → kept v ≡ Holds h → length v ≡ heldBytes
 unfolding kept encodes
 kept-long v h e = eqb-true (length v) heldBytes (first-of (eqb (length v) heldBytes) _ (says v h (encodes v) e .0))
 

@@ -1,0 +1,159 @@
+-- What a host links: start and go over the 64 bytes that it keeps, lent storage and lent cells (`box_export:Calls`, the contracts of `poplar_start` and
+-- `poplar_go`). What is claimed of `starts` and `goes` is said here of these calls: an allowance may be cut in parts (demand 1), what may change
+-- (demand 2), damage (demand 3), and that soundness lasts. Bytes that encode no held state are among what a host may lend: then nothing runs.
+use Prim.Native.Nat.{ℕ, _+_, _*_, _<_}
+use mathlib.Core.Path.{_≡_}
+use mathlib.Core.Bool.{Bool, true, false}
+use mathlib.Core.List.{List, [], _∷_}
+use lib.ListN.{length, getD}
+use Rattle.cells.specs.Cells.{trackCells, gap}
+use Rattle.words.specs.declared.{Word.Word, Tested.Tested}
+use Rattle.words.specs.Words.{stored, statusFor}
+use Rattle.areas.specs.declared.{Area.Area}
+use Rattle.pack.specs.declared.{Shape.Shape}
+use Rattle.held.specs.declared.{Held.Held, Kept.Kept}
+use Rattle.held.specs.Held.{encoded, kept, rested}
+use Rattle.turn.specs.Turn.{withSense}
+use Rattle.channel.specs.Channel.{World, world}
+use Rattle.chain.specs.Step.{next, run}
+use Rattle.host.specs.declared.{Answer.Answer}
+use Rattle.host.specs.Host.{guardOf, ifPasses, answerNo}
+use Rattle.sound.specs.Sound.{Sound}
+use Rattle.box_export.specs.Calls.{Call, startCall, goCall}
+use Rattle.claim_box.specs.Boxes.{allUnder}
+use Rattle.claim_box.specs.Confined.{among, sparesCell, sparesByte, sparesTrack}
+use Rattle.claim_box.specs.Demand3.{track, Harmed, HostCall, start, go, sparedCalls, FirstReads, dataCheck}
+use Rattle.claim_sound.specs.Soundness.{bytes, knownCalls, AllSound, homesKept}
+
+-- ---- the calls
+
+-- one, on what the call before left
+unfoldable pub link : Shape → HostCall → Call → Call
+link g start x = startCall g (x .held) (x .storage) (x .cells)
+link g (go n) x = goCall g n (x .held) (x .storage) (x .cells)
+
+-- what each of several answers and leaves; what is left in the end
+unfoldable pub links : Shape → List HostCall → Call → List Call
+links g [] x = []
+links g (k ∷ ks) x = link g k x ∷ links g ks (link g k x)
+
+unfoldable pub linkedTo : Shape → List HostCall → Call → Call
+linkedTo g [] x = x
+linkedTo g (k ∷ ks) x = linkedTo g ks (link g k x)
+
+-- what holds of the words that would run: none, if the bytes encode no held state
+unfoldable pub ifHeld : Kept → (Held → Bool) → Bool
+ifHeld (Kept.Holds h) f = f h
+ifHeld Kept.Wrong f = true
+
+-- with what the bytes say, what is lent is a world
+abbrev pub worldBy : Call → Held → World
+worldBy x h = world h (x .storage) (x .cells)
+
+-- .. of the words of a go that passes the refusals
+unfoldable pub ifRuns : Shape → Call → (World → Bool) → Bool
+ifRuns g x f = ifHeld (kept (x .held)) (λ (h : Held). ifPasses (guardOf g (worldBy x h)) (f (worldBy x h)))
+
+-- ---- demand 1: "Cutting it into parts, with lent memory untouched between, changes nothing."
+
+-- answer 1, allowance used
+abbrev pub used : ℕ
+used = answerNo Answer.AllowanceUsed
+
+pub record LinkCut (g : Shape) (a b : ℕ) (x : Call) : Type 0 where
+  pub cut-used : link g (go a) x .answer ≡ used → link g (go b) (link g (go a) x) ≡ link g (go (a + b)) x
+  pub cut-else : (link g (go a) x .answer ≡ used → ⊥) → link g (go (a + b)) x ≡ link g (go a) x
+
+-- ---- demand 2: what may change, as `claim_box:Confined.CallConfined` has it; nothing grows
+
+pub record LinkConfined (g : Shape) (n : ℕ) (x : Call) : Type 0 where
+  pub cells : (i : ℕ) → ifRuns g x (sparesCell g i n) ≡ true → getD (link g (go n) x .cells) i gap ≡ getD (x .cells) i gap
+  pub on-track : (m i : ℕ) → i < trackCells → ifRuns g x (sparesTrack g m n) ≡ true
+      → getD (link g (go n) x .cells) (m * trackCells + i) gap ≡ getD (x .cells) (m * trackCells + i) gap
+  pub storage : (i : ℕ) → ifRuns g x (sparesByte g i n) ≡ true → getD (link g (go n) x .storage) i 0 ≡ getD (x .storage) i 0
+  pub start-cells : link g start x .cells ≡ x .cells
+  pub start-else : (link g start x .answer ≡ answerNo Answer.BadStart → ⊥) → link g start x .storage ≡ x .storage
+  pub start-storage : (i : ℕ) → among 68 2 i ≡ false → getD (link g start x .storage) i 0 ≡ getD (x .storage) i 0
+  -- lengths, of every call
+  pub long : (k : HostCall) → length (link g k x .cells) ≡ length (x .cells)
+  pub storage-long : (k : HostCall) → length (link g k x .storage) ≡ length (x .storage)
+  pub held-long : (k : HostCall) → length (link g k x .held) ≡ length (x .held)
+  -- bytes that encode no held state: all is left unchanged
+  pub wrong : (k : HostCall) → kept (x .held) ≡ Kept.Wrong
+      → (link g k x .held ≡ x .held) × (link g k x .storage ≡ x .storage) × (link g k x .cells ≡ x .cells)
+
+-- ---- demand 3
+
+-- every answer, held byte and stored byte agrees, and no cell of either pack changes
+pub record LinkAgrees (c c′ : List ℕ) (x y : Call) : Type 0 where
+  pub answer : y .answer ≡ x .answer
+  pub held : y .held ≡ x .held
+  pub storage : y .storage ≡ x .storage
+  pub mine : x .cells ≡ c
+  pub theirs : y .cells ≡ c′
+
+pub data AllLinksAgree (c c′ : List ℕ) : List Call → List Call → Type 0 where
+  none : AllLinksAgree c c′ [] []
+  more : {x y : Call} {l m : List Call} → LinkAgrees c c′ x y → AllLinksAgree c c′ l m → AllLinksAgree c c′ (x ∷ l) (y ∷ m)
+
+-- no word that ran in these calls was a write, and none read the area x of track n
+unfoldable pub sparedLinks : Shape → ℕ → Area → List HostCall → Call → Bool
+sparedLinks g n x ks y = ifHeld (kept (y .held)) (λ (h : Held). sparedCalls g n x ks (worldBy y h))
+
+-- the first word that reads it is word k + 1 of a go from y, whose bytes say this held state
+pub record LinkFirst (g : Shape) (n : ℕ) (x : Area) (allowance k : ℕ) (y : Call) : Type 0 where
+  pub said : Held
+  pub says : kept (y .held) ≡ Kept.Holds said
+  pub first : FirstReads g n x allowance k (worldBy y said)
+
+-- then that go, from the same bytes and storage on the damaged pack, answers 0, chain ended, at that word: where the world was u before it, storage is
+-- that of u with a new status word, Unit Check and the word's whole count left; the bytes say Data Check; no cell changed
+pub record LinkEnds (x : Area) (u : World) (y z : Call) : Type 0 where
+  pub word : Word
+  pub given : next u ≡ Tested.Obey word
+  pub answer : z .answer ≡ answerNo Answer.ChainEnded
+  pub held : z .held ≡ encoded (rested (withSense (u .held .position) (dataCheck (x .part))))
+  pub storage : z .storage ≡ stored (u .storage) (statusFor (u .held .channel .key) (u .held .channel .next) 0x0E 0x00 (word .count))
+  pub cells : z .cells ≡ y .cells
+
+-- what a host lends of the damaged pack, all else alike
+abbrev pub withCells : Call → List ℕ → Call
+withCells y c = record { answer = y .answer; held = y .held; storage = y .storage; cells = c }
+
+pub record LinkDemand3 (g : Shape) (n : ℕ) (x : Area) (c c′ : List ℕ) : Type 0 where
+  pub agrees : (y : Call) → y .cells ≡ c → (ks : List HostCall) → sparedLinks g n x ks y ≡ true
+      → AllLinksAgree c c′ (links g ks y) (links g ks (withCells y c′))
+  pub ends : (y : Call) → y .cells ≡ c → (ks : List HostCall) → sparedLinks g n x ks y ≡ true
+      → (allowance k : ℕ) → (f : LinkFirst g n x allowance k (linkedTo g ks y))
+      → LinkEnds x (run g k (worldBy (linkedTo g ks y) (f .said))) (linkedTo g ks (withCells y c′))
+      (link g (go allowance) (linkedTo g ks (withCells y c′)))
+
+-- ---- soundness
+
+-- what a host can lend: bytes
+pub record LentBytes (x : Call) : Type 0 where
+  pub held : allUnder bytes (x .held) ≡ true
+  pub storage : allUnder bytes (x .storage) ≡ true
+
+-- whether track m is known to be soundly written after these calls; nothing runs if the bytes encode no held state
+unfoldable pub knownBy : Kept → (Held → Bool) → Bool → Bool
+knownBy (Kept.Holds h) f b = f h
+knownBy Kept.Wrong f b = b
+
+unfoldable pub knownLinks : Shape → ℕ → List HostCall → Call → Bool → Bool
+knownLinks g m ks x b = knownBy (kept (x .held)) (λ (h : Held). knownCalls g m ks (worldBy x h) b) b
+
+pub record LinkSound (g : Shape) (ks : List HostCall) (x : Call) : Type 0 where
+  pub lent-storage : LentBytes x → allUnder bytes (linkedTo g ks x .storage) ≡ true
+  pub track-sound : LentBytes x → (m : ℕ) (b : Bool) → (b ≡ true → Sound (track (x .cells) m)) → knownLinks g m ks x b ≡ true
+      → Sound (track (linkedTo g ks x .cells) m)
+  pub pack-sound : LentBytes x → ifHeld (kept (x .held)) (λ (h : Held). homesKept g ks (worldBy x h)) ≡ true → AllSound g (x .cells)
+      → AllSound g (linkedTo g ks x .cells)
+
+-- ---- all of it
+
+pub record Linked (g : Shape) : Type 0 where
+  pub cut : (a b : ℕ) (x : Call) → LinkCut g a b x
+  pub confined : (n : ℕ) (x : Call) → LinkConfined g n x
+  pub demand-3 : (n s : ℕ) (x : Area) (c c′ : List ℕ) → Harmed n s x c c′ → LinkDemand3 g n x c c′
+  pub sound : (ks : List HostCall) (x : Call) → LinkSound g ks x
