@@ -1,5 +1,5 @@
--- Document 01, "What lies on a track": the home address, R0 and the records, where their areas lie, when an area is readable; flag bytes.
--- A record is known by the first cell of its count area: 7 for R0, the cell after the marker for any other.
+-- Document 01, "What lies on a track"; REFERENCE 2.3, 2.4, 2.6: the home address, R0 and the records, where their areas lie, when an area is readable; flag
+-- bytes. A record is known by the first cell of its count area: 7 for R0, the cell after the marker for any other.
 use Prim.Native.Nat.{ℕ, _+_, max, _-_, _*_, _/_, _%_}
 use mathlib.Core.Bool.{Bool}
 use mathlib.Core.List.{List}

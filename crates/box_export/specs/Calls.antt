@@ -1,4 +1,4 @@
--- The calls that a host links, over lent bytes: what each answers, and what it leaves of the held bytes, storage and cells.
+-- REFERENCE 10.1, 10.2: the calls that a host links, over lent bytes: what each answers, and what it leaves of the held bytes, storage and cells.
 use Prim.Native.Nat.{ℕ}
 use mathlib.Core.List.{List}
 use lib.ListN.{length}

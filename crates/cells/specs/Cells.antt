@@ -1,5 +1,5 @@
--- What every other crate's model is written with: a choice by a test; lists of numbers, fields of several bytes, unsigned numbers; cells.
--- Document 01, "What the box stands in for": a track is 4,096 cells, each a number 256 k + b. k = 1 is a recorded byte b; from cell 7 on, 512 is an
+-- What every other crate's model is written with: a choice by a test; lists of numbers, fields of several bytes, unsigned numbers; cells. Document 01,
+-- "What the box stands in for"; REFERENCE 2.2: a track is 4,096 cells, each a number 256 k + b. k = 1 is a recorded byte b; from cell 7 on, 512 is an
 -- address marker; anything else is gap, written as 0.
 use mathlib.Core.Bool.{Bool, true, false}
 use Prim.Native.Nat.{ℕ, zero, suc, _+_, _*_, _/_, _%_}

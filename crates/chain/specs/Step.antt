@@ -1,5 +1,5 @@
--- One command word, and an allowance of them: the channel takes the word, the command has its turn, the pack takes the cells that it lays.
--- Document 01, "What the host hears", refusals 2 to 4: what storage, pack and held state must be for that.
+-- One command word, and an allowance of them: the channel takes the word, the command has its turn, the pack takes the cells that it lays. REFERENCE 9.4.
+-- Document 01, "What the host hears", refusals 2 to 4; REFERENCE 3.5, 9.1: what storage, pack and held state must be for that.
 use Prim.Native.Nat.{ℕ, zero, suc, _+_, _≤_}
 use mathlib.Core.Path.{_≡_}
 use mathlib.Core.Bool.{Bool, true, false, not}

@@ -1,5 +1,5 @@
--- Document 01, "Channel words": the channel about a command. It alone fetches and places bytes, counts what moved and what is left, stores the status word
--- and finds the next word. Of the track it knows only that it is lent on.
+-- Document 01, "Channel words"; REFERENCE 7.5 to 7.8: the channel about a command. It alone fetches and places bytes, counts what moved and what is left,
+-- stores the status word and finds the next word. Of the track it knows only that it is lent on.
 use Prim.Native.Nat.{ℕ, _-_, min, _+_}
 use mathlib.Core.Bool.{Bool, true, false, not}
 use mathlib.Core.List.{List}

@@ -1,4 +1,4 @@
--- Document 01, "How tightly it is pinned": what a box must do, and the six boxes that are shut out, each as a function of the model.
+-- Document 01, "How tightly it is pinned"; REFERENCE 1.4: what a box must do, and the six boxes that are shut out, each as a function of the model.
 use Prim.Native.Nat.{ℕ, zero, suc, _≤_}
 use mathlib.Core.Path.{_≡_}
 use mathlib.Core.Bool.{Bool, true}

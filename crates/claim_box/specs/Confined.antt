@@ -1,8 +1,8 @@
--- Demand 2, what may change: "over every chain and allowance: cells outside the selected track never change; within it a Data update changes only
--- that data area with its check, a Key and Data update those two areas, Write HA, R0 and 1D only their own area or record and what lies behind it;
--- nothing changes without mask and licence; a command that ends in Unit Check changes no cell. Storage changes only where a read or Sense put its
--- bytes and in bytes 64 to 71 by a stored status word (68 and 69 by answer 5)." What may change is said by the command's row of the table and by what is
--- held and recorded, never by what a turn lays or gives; of the turn only how many bytes moved is taken, and whether the chain ends.
+-- Demand 2, what may change (REFERENCE 1.2, 9.5): "over every chain and allowance: cells outside the selected track never change; within it a Data update
+-- changes only that data area with its check, a Key and Data update those two areas, Write HA, R0 and 1D only their own area or record and what lies behind
+-- it; nothing changes without mask and licence; a command that ends in Unit Check changes no cell. Storage changes only where a read or Sense put its bytes
+-- and in bytes 64 to 71 by a stored status word (68 and 69 by answer 5)." What may change is said by the command's row of the table and by what is held and
+-- recorded, never by what a turn lays or gives; of the turn only how many bytes moved is taken, and whether the chain ends.
 use Prim.Native.Nat.{ℕ, zero, suc, _+_, _-_, _*_, _<_, _≤_, min}
 use mathlib.Core.Path.{_≡_}
 use mathlib.Core.Bool.{Bool, true, false, not}

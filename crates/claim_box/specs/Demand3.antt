@@ -1,6 +1,6 @@
--- Demand 3: take a soundly written track and change one or more recorded bits in one area of it, check bytes included, all within 16
--- successive bits, markers untouched. Run the same chain, without writes, from the same state on both, all else alike. Until a command
--- reads that area all agrees; the first command that reads it ends with Data Check.
+-- Demand 3 (REFERENCE 1.3): take a soundly written track and change one or more recorded bits in one area of it, check bytes included, all within 16
+-- successive bits, markers untouched. Run the same chain, without writes, from the same state on both, all else alike. Until a command reads that area all
+-- agrees; the first command that reads it ends with Data Check.
 use Prim.Native.Nat.{ℕ, zero, suc, _+_, _*_, _<_, _≤_}
 use mathlib.Core.Path.{_≡_}
 use mathlib.Core.Bool.{Bool, true, false, not}

@@ -1,6 +1,5 @@
--- What the contracts of the exported routines say of an outcome: the result, and what is left of all that was lent.
--- Each statement is the routine's `ensures` word for word, with `x` for what a parameter was at entry and `x′` for what is left of it; tests/claims
--- compares the two.
+-- REFERENCE 1.4, 10.2: what the contracts of the exported routines say of an outcome, the result and what is left of all that was lent. Each statement is
+-- the routine's `ensures` word for word, with `x` for what a parameter was at entry and `x′` for what is left of it; tests/claims compares the two.
 use Prim.Native.Nat.{ℕ}
 use mathlib.Core.Path.{_≡_}
 use mathlib.Core.List.{List}

@@ -1,4 +1,4 @@
--- Document 01, "Figures to check": the starred figures, in one table.
+-- Document 01, "Figures to check"; REFERENCE 11.1, 11.3: the starred figures, in one table.
 use Prim.Native.Nat.{ℕ, suc, _/_, _%_}
 use mathlib.Core.Path.{_≡_}
 use mathlib.Core.Bool.{true, false}

@@ -1,4 +1,4 @@
--- Both sides of each limit of a pack, and room far past a track.
+-- Both sides of each limit of a pack, and room far past a track (REFERENCE 2.1, 2.8).
 use Prim.Native.Nat.{ℕ, _*_}
 use mathlib.Core.Path.{_≡_}
 use mathlib.Core.Bool.{Bool, true, false}

@@ -1,6 +1,6 @@
--- The fault that lost a pack: room that went below zero and became huge. A record that does not fit is refused with 00 40, the lesser of its count
--- and 8 bytes moved, and no cell changes: at room -1, and behind a count that puts its first cell tens of thousands past the track's end.
--- What holds of every such write is `Confined`; these are two of them, by a go.
+-- The fault that lost a pack (REFERENCE 1.5, 2.8): room that went below zero and became huge. A record that does not fit is refused with 00 40, the lesser
+-- of its count and 8 bytes moved, and no cell changes: at room -1, and behind a count that puts its first cell tens of thousands past the track's end. What
+-- holds of every such write is `Confined`; these are two of them, by a go.
 use Prim.Native.Nat.{ℕ}
 use mathlib.Core.Path.{_≡_}
 use mathlib.Core.List.{List, [], _∷_, _++_}

@@ -1,6 +1,5 @@
--- Document 01, "Where the head stands": work on a record reads its count area first, then every area it names; an area passed over is
--- not read, nor the data area where DL = 0. Examples of it on one track, and of demand 3: damage that is passed over, and damage that is
--- read.
+-- Document 01, "Where the head stands"; REFERENCE 4.7, 11.2: work on a record reads its count area first, then every area it names; an area passed over is
+-- not read, nor the data area where DL = 0. Examples of it on one track, and of demand 3: damage that is passed over, and damage that is read.
 use Prim.Native.Nat.{ℕ, zero, suc}
 use mathlib.Core.Path.{_≡_}
 use mathlib.Core.Bool.{Bool, true, false}

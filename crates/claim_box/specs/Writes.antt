@@ -1,5 +1,5 @@
--- Document 01, "Commands": what each write does, what it may follow and which mask bars it, by the codes alone, for every command before and every mask. The table's
--- columns are values with names; a wrong act, licence or bar in a write's row, in model and code alike, is refused here.
+-- Document 01, "Commands"; REFERENCE 5.7, 6.2: what each write does, what it may follow and which mask bars it, by the codes alone, for every command
+-- before and every mask. The table's columns are values with names; a wrong act, licence or bar in a write's row, in model and code alike, is refused here.
 use Prim.Native.Nat.{ℕ}
 use mathlib.Core.Path.{_≡_}
 use mathlib.Core.Bool.{Bool, true, false}

@@ -1,5 +1,5 @@
--- Demand 3: one or more recorded bits of one area of a soundly written track are changed, all within 16 successive bits; the areas of
--- such a track; which areas are hit.
+-- Demand 3 (REFERENCE 1.3): one or more recorded bits of one area of a soundly written track are changed, all within 16 successive bits; the areas of such
+-- a track; which areas are hit.
 use Prim.Native.Nat.{ℕ, _+_, _<_, _≤_}
 use mathlib.Core.Path.{_≡_}
 use mathlib.Core.Bool.{Bool, true, false}

@@ -1,6 +1,6 @@
--- Document 01, "What lies on a track" and "Commands", the writes: what each of them leaves on the track under the head. Write R0 leaves a soundly
--- written track whatever lay behind the home address, which it read first; 1D, 05 and 0D leave one if the track was; Write HA leaves a readable home
--- address and zeros from cell 7, which is not soundly written until a Write R0. Reading back returns the bytes written. What was written had its
+-- Document 01, "What lies on a track" and "Commands", the writes; REFERENCE 5.5, 5.6: what each of them leaves on the track under the head. Write R0 leaves
+-- a soundly written track whatever lay behind the home address, which it read first; 1D, 05 and 0D leave one if the track was; Write HA leaves a readable
+-- home address and zeros from cell 7, which is not soundly written until a Write R0. Reading back returns the bytes written. What was written had its
 -- licence, and the mask let it through. A command ending in Unit Check changes no track cell.
 use Prim.Native.Nat.{ℕ, _+_, _<_, _≤_}
 use mathlib.Core.Path.{_≡_}

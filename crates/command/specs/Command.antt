@@ -1,5 +1,5 @@
--- Document 01, "Where the head stands" and "Commands": the one way that every command goes, by its row of the table: which record it works on, which
--- areas it reads there, what it does with them. The rows of the Unit Check table come in its order.
+-- Document 01, "Where the head stands" and "Commands"; REFERENCE 4, 5, 8.2: the one way that every command goes, by its row of the table: which record it
+-- works on, which areas it reads there, what it does with them. The rows of the Unit Check table come in its order.
 use Prim.Native.Nat.{ℕ, _+_, _-_, _/_, _%_}
 use mathlib.Core.Path.{_≡_}
 use mathlib.Core.Bool.{Bool, true, false}

@@ -1,5 +1,5 @@
--- The words in which it is said what a command sees of the pack, and what it leaves as it is: demand 3 of one command. Two cylinders are compared by the
--- areas that the command reads, in order.
+-- The words in which it is said what a command sees of the pack, and what it leaves as it is: demand 3 of one command (REFERENCE 1.3, 4.7). Two cylinders
+-- are compared by the areas that the command reads, in order.
 use mathlib.Core.Path.{_≡_}
 use mathlib.Core.Bool.{Bool, true, false}
 use mathlib.Core.List.{List, [], _∷_}

@@ -1,4 +1,4 @@
--- Document 01, "Commands": a search compares the first m bytes as unsigned numbers; high means the track's is higher.
+-- Document 01, "Commands"; REFERENCE 5.3: a search compares the first m bytes as unsigned numbers; high means the track's is higher.
 use Prim.Native.Nat.{ℕ, _+_, _≤_}
 use mathlib.Core.List.{List}
 use lib.ListN.{length}

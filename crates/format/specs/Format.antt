@@ -1,4 +1,4 @@
--- Document 01, "What lies on a track" and "Commands": the cells of a new record; which cells an update needs.
+-- Document 01, "What lies on a track" and "Commands"; REFERENCE 2.3, 5.5, 5.6: the cells of a new record; which cells an update needs.
 use Prim.Native.Nat.{ℕ, _+_, _≤_}
 use mathlib.Core.Path.{_≡_}
 use mathlib.Core.Bool.{Bool}

@@ -1,4 +1,4 @@
--- Document 01, "Where the head stands" and "Commands": what the box holds from call to call, and the 64 bytes of it that a host keeps.
+-- Document 01, "Where the head stands" and "Commands"; REFERENCE 3: what the box holds from call to call, and the 64 bytes of it that a host keeps.
 use Prim.Native.Nat.{ℕ, _+_, _*_, _/_, _%_, _^_, _<_}
 use mathlib.Core.Bool.{Bool, true, false}
 use mathlib.Core.List.{List, [], _∷_, _++_}

@@ -1,4 +1,4 @@
--- Document 01, "What the host hears": the answers, the refusals in their order, a start, and going on.
+-- Document 01, "What the host hears"; REFERENCE 9: the answers, the refusals in their order, a start, and going on.
 use Prim.Native.Nat.{ℕ}
 use mathlib.Core.Bool.{Bool, true, false}
 use mathlib.Core.List.{[], _∷_}

@@ -1,4 +1,4 @@
--- The check by a table of 256 entries, one look for each byte.
+-- The check (REFERENCE 2.5) by a table of 256 entries, one look for each byte.
 use mathlib.Core.List.{List, [], _∷_}
 use Prim.Native.Nat.{ℕ, _*_, _/_, _%_}
 use lib.ListN.{getD}

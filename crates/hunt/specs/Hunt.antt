@@ -1,4 +1,4 @@
--- Document 01, "Where the head stands" and "Commands", Space Record: which record is next. It goes by where the markers are and by
+-- Document 01, "Where the head stands" and "Commands", Space Record; REFERENCE 4.2, 4.3, 4.6: which record is next. It goes by where the markers are and by
 -- nothing else on the track.
 use Prim.Native.Nat.{ℕ, suc, _+_}
 use mathlib.Core.Path.{_≡_}

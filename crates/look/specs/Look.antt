@@ -1,5 +1,5 @@
--- A look at one track, without a box: where the next marker is, where an area lies, whether it is readable. Document 01, "What lies on a
--- track" and "Where the head stands". DECISIONS 65 to 68.
+-- A look at one track, without a box: where the next marker is, where an area lies, whether it is readable. Document 01, "What lies on a track" and "Where
+-- the head stands"; REFERENCE 10.3, 10.4. DECISIONS 65 to 68.
 use Prim.Native.Nat.{ℕ}
 use mathlib.Core.Bool.{Bool}
 use mathlib.Core.List.{List, [], _∷_}

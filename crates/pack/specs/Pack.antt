@@ -1,5 +1,5 @@
--- Document 01, "What the box stands in for": a pack may be lent with 1 to 203 cylinders and 1 to 10 heads; its tracks lie in one list of cells,
--- cylinder by cylinder, in each head by head (DECISIONS 15). "Commands": a seek's address.
+-- Document 01, "What the box stands in for"; REFERENCE 2.1: a pack may be lent with 1 to 203 cylinders and 1 to 10 heads; its tracks lie in one list of
+-- cells, cylinder by cylinder, in each head by head (DECISIONS 15). "Commands"; REFERENCE 5.2: a seek's address.
 use Prim.Native.Nat.{ℕ, _*_, _+_, _<_, _≤_}
 use mathlib.Core.Bool.{Bool}
 use lib.Dec.{ltb, leb, eqb}

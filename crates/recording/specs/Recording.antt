@@ -1,4 +1,4 @@
--- Document 01, "What lies on a track" and "Commands": an area is recorded with its check; missing bytes are zeros, surplus is not
+-- Document 01, "What lies on a track" and "Commands"; REFERENCE 2.2, 5.5: an area is recorded with its check; missing bytes are zeros, surplus is not
 -- fetched; gaps are written as 0.
 use Prim.Native.Nat.{ℕ, _+_, _-_, _≤_}
 use mathlib.Core.List.{List, _∷_, _++_}

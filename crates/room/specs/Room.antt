@@ -1,5 +1,5 @@
--- Document 01, "What lies on a track": room left is the cells from a new record's first cell to the track's end, less the cells it
--- needs. It is a signed number: below zero is an answer, and means it doesn't fit.
+-- Document 01, "What lies on a track"; REFERENCE 2.8: room left is the cells from a new record's first cell to the track's end, less the cells it needs. It
+-- is a signed number: below zero is an answer, and means it doesn't fit.
 use Prim.Native.Nat.{ℕ}
 use mathlib.Core.Bool.{Bool}
 use lib.IntN.{ℤ, pos, _-ℤ_}

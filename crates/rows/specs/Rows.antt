@@ -1,4 +1,4 @@
--- Document 01, "Channel words", the Unit Check table, row by row: sense bytes 0 and 1, and the bytes taken.
+-- Document 01, "Channel words", the Unit Check table; REFERENCE 8.1: row by row, sense bytes 0 and 1, and the bytes taken.
 use Prim.Native.Nat.{ℕ}
 -- Row: the rows of the table, each named below. Sense: byte0, byte1; bytes 2 to 5 are always zero.
 use Rattle.rows.specs.declared.{Row.Row, Sense.Sense}

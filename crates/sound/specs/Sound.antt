@@ -1,5 +1,5 @@
--- Document 01, "What lies on a track": a track is soundly written when home address, R0 and every record lie one after another, each
--- area readable, flags by rule, and all cells after the last are 0.
+-- Document 01, "What lies on a track"; REFERENCE 2.7: a track is soundly written when home address, R0 and every record lie one after another, each area
+-- readable, flags by rule, and all cells after the last are 0.
 use Prim.Native.Nat.{ℕ, _+_, _≤_}
 use mathlib.Core.Path.{_≡_}
 use mathlib.Core.Bool.{true}

@@ -1,4 +1,4 @@
--- Soundly written, as a test that computes; the laws say that it is the predicate.
+-- Soundly written (REFERENCE 2.7), as a test that computes; the laws say that it is the predicate.
 use Prim.Native.Nat.{ℕ, zero, suc, _+_}
 use mathlib.Core.Bool.{Bool, true, false, not}
 use mathlib.Core.List.{List, [], _∷_}

@@ -1,4 +1,4 @@
--- Tracks that are soundly written, and near misses.
+-- Tracks that are soundly written (REFERENCE 2.7), and near misses.
 use Prim.Native.Nat.{ℕ, _-_}
 use mathlib.Core.List.{List, [], _∷_, _++_}
 use lib.ListN.{length, set, replicate}

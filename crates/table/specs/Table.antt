@@ -1,6 +1,7 @@
--- Document 01, "Commands" and "Where the head stands": one row a command, in the order of its list, and the file mask. A TIC is no command
--- (`words:Words.isTic`). The columns are the fields of `Rule`: which command must come before; what of the mask bars it; which record it takes; which areas of
--- it are read; what is done then; whether the record is left selected, and whom it then serves; Unit Exception at DL = 0; whether sense is cleared first.
+-- Document 01, "Commands" and "Where the head stands"; REFERENCE 4.4, 5.1, 6: one row a command, in the order of its list, and the file mask. A TIC is no
+-- command (`words:Words.isTic`). The columns are the fields of `Rule`: which command must come before; what of the mask bars it; which record it takes;
+-- which areas of it are read; what is done then; whether the record is left selected, and whom it then serves; Unit Exception at DL = 0; whether sense is
+-- cleared first.
 use Prim.Native.Nat.{ℕ, _/_, _%_}
 use mathlib.Core.Bool.{Bool, true, false}
 use mathlib.Core.List.{List, [], _∷_}

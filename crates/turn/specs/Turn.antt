@@ -1,5 +1,5 @@
 -- What one command does, as one value. A command is told its code and the bytes sent; it knows no storage, no address, no command word and no channel.
--- Document 01, "Commands", and the Unit Check table of "Channel words".
+-- Document 01, "Commands", and the Unit Check table of "Channel words"; REFERENCE 5, 8.3.
 use Prim.Native.Nat.{ℕ}
 use mathlib.Core.Bool.{Bool, true, false}
 use mathlib.Core.List.{List, [], _∷_}

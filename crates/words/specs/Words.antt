@@ -1,4 +1,4 @@
--- Document 01, "Channel words": the address word, command words, program checks in their order, the status word.
+-- Document 01, "Channel words"; REFERENCE 7.1 to 7.4, 7.8: the address word, command words, program checks in their order, the status word.
 use Prim.Native.Nat.{ℕ, _+_, _≤_, _/_, _%_, _*_, _<_}
 use mathlib.Core.Bool.{Bool}
 use mathlib.Core.List.{List, [], _∷_}
