@@ -1,26 +1,26 @@
 -- The premises compute: the one track of the pack is the track that was damaged, no cell lies beside it, and each word's areas are found by running it.
 -- What demand 3 then says of it is the theorem's.
-use Prim.Native.Nat.{ℕ, _+_, _*_, _<_, _≤_}
-use mathlib.Core.Path.{_≡_, refl, sym, ap, _∙_, subst}
+use Prim.Native.Nat.{ℕ, _<_}
+use mathlib.Core.Path.{_≡_, refl, sym, _∙_, subst}
 use mathlib.Core.Bool.{true}
-use mathlib.Core.List.{List, [], _∷_}
+use mathlib.Core.List.{List}
 use mathlib.Core.Logic.{_⊎_, ⊎-elim}
 use native.Mathlib.Omega.{arith}
-use lib.ListN.{length, getD, length-set, List·getD-eq-default}
+use lib.ListN.{length, List·getD-eq-default}
 use lib.Dec.{lit<}
+use Rattle.table.specs.Table as Table
 use Rattle.held.specs.Held.{fresh}
+use Rattle.chain.specs.Step as Step
+use Rattle.host.specs.Host.{ifPasses}
 use Rattle.sound.specs.Sound.{Sound}
 use Rattle.claim_track.specs.Damage.{Own, Damaged, any, partNo, sameArea}
 use Rattle.claim_box.specs.Figures.{onePack}
-use Rattle.claim_box.specs.Reading.{stocked, hurtCount, oneCount, NotEmpty}
+use Rattle.claim_box.specs.Reading.{stocked, hurtCount, oneCount}
 use Rattle.claim_box.specs.Demand3.{track, Harmed, nextWrites, isIt, readsIt, spared, hear, left, sparedCall, sparedCalls, FirstReads}
 use Rattle.claim_box.specs.Example.{passing, passingCalls, passed, Met}
 use Rattle.claim_box.proofs.Opened as Opened
 use Rattle.claim_box.proofs.Reading.{not-empty}
 use Rattle.claim_box.proofs.Demand3.{demand-3}
-use Rattle.table.specs.Table as Table
-use Rattle.chain.specs.Step as Step
-use Rattle.host.specs.Host.{ifPasses}
 
 -- the pack is its one track
 whole : track stocked 0 ≡ stocked

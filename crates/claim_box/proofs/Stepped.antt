@@ -1,14 +1,12 @@
 -- One command word on a pack and on the pack harmed. Under each head the track is the same or is the harmed one; where the word reads not that area the
 -- two turns are one, where it reads it the word ends in Data Check (`claim_track:Struck`). Then how the channel ends a Data Check.
-use Prim.Native.Nat.{ℕ, _+_, _-_, _*_, _<_, _≤_, min}
+use Prim.Native.Nat.{ℕ, _+_, _-_, _*_, min}
 use mathlib.Core.Path.{_≡_, refl, sym, ap, ap₂, _∙_, subst}
 use mathlib.Core.Bool.{Bool, true, false, false≢true}
 use mathlib.Core.List.{List}
-use mathlib.Core.Logic.{_⊎_, inl, inr}
 use native.Mathlib.Omega.{arith}
-use native.Mathlib.Decide.{decLt, ℕ-discrete}
-use lib.ListN.{drop, length-take, length-drop}
-use lib.Seq.{take-nil, getD-take, getD-drop, ext-getD}
+use native.Mathlib.Decide.{ℕ-discrete}
+use lib.Seq.{take-nil}
 use lib.Dec.{eqb}
 use borrow.Author.Tests.{eq-eqb, ne-eqb}
 use Rattle.table.specs.Table.{isWrite, ruleOf}
@@ -24,7 +22,7 @@ use Rattle.words.specs.Words.{chains, stored, statusFor}
 use Rattle.areas.specs.declared.{Part.Part, Area.Area}
 use Rattle.areas.specs.Areas.{rowOf}
 use Rattle.pack.specs.declared.{Head.Head, Shape.Shape}
-use Rattle.pack.specs.Pack.{trackNo, startOf, trackAt}
+use Rattle.pack.specs.Pack.{trackNo, startOf}
 use Rattle.held.specs.declared.{Position.Position, Orders.Orders, Channel.Channel, Held.Held}
 use Rattle.held.specs.Held.{rested}
 use Rattle.turn.specs.Turn.{withSense, TrackArea, Piece, given, transferOf, wants, Turn, reportOf, isCheck, checkTurn}

@@ -1,5 +1,5 @@
--- Demand 3 is not empty: one pack, harmed as a whole, and one chain on it that meets every premise. Search ID takes R0, Space Record passes the
--- damaged record 1, Read CKD takes record 2 and Read Count record 3; a second Read Count passes the index point and reads record 1's count.
+-- Demand 3 (REFERENCE 1.3) is not empty: one pack, harmed as a whole, and one chain on it that meets every premise. Search ID takes R0, Space Record passes
+-- the damaged record 1, Read CKD takes record 2 and Read Count record 3; a second Read Count passes the index point and reads record 1's count.
 use Prim.Native.Nat.{ℕ}
 use mathlib.Core.Path.{_≡_}
 use mathlib.Core.Bool.{true}

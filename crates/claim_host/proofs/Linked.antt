@@ -1,8 +1,8 @@
 -- Cutting, confinement, demand 3 and soundness, of the calls on lent bytes: by what the bytes say. If they say a held state, the call is the model's
 -- (`Says`), of which each was proved; if they say none, it refuses and changes nothing.
-use Prim.Native.Nat.{ℕ, _+_, _*_, _<_}
+use Prim.Native.Nat.{ℕ, _+_, _*_}
 use mathlib.Core.Path.{_≡_, refl, sym, ap, _∙_, subst}
-use mathlib.Core.Bool.{Bool, true, false}
+use mathlib.Core.Bool.{Bool, true}
 use mathlib.Core.List.{List, [], _∷_}
 use native.Mathlib.Omega.{arith}
 use lib.ListN.{length, getD}
@@ -19,7 +19,7 @@ use Rattle.turn.specs.Turn.{withSense}
 use Rattle.chain.specs.Step.{next, run}
 use Rattle.host.specs.declared.{Answer.Answer}
 use Rattle.host.specs.declared.Answer.the-variants.{ChainEnded, AllowanceUsed, BadStorage, BadPack, BadHeld, BadStart, NoChain, ChainGoing}
-use Rattle.host.specs.Host.{Hears, guardOf, ifPasses, answerNo, wrongHeld, starts, goes}
+use Rattle.host.specs.Host.{Hears, guardOf, ifPasses, answerNo, wrongHeld, goes}
 use Rattle.host.proofs.Cut.{cut-used, cut-else}
 use Rattle.sound.specs.Sound.{Sound}
 use Rattle.box_export.specs.Calls.{Call, call, callOf}
@@ -33,7 +33,7 @@ use Rattle.claim_box.proofs.Demand3 as Proved
 use Rattle.claim_sound.specs.Soundness.{InBytes, knownCalls, AllSound, homesKept}
 use Rattle.claim_sound.proofs.Soundness.{soundness-lasts}
 use Rattle.claim_sound.proofs.Bytes.{under-bytes}
-use Rattle.claim_host.specs.Linked.{link, links, linkedTo, ifHeld, worldBy, ifRuns, used, LinkCut, LinkConfined, LinkAgrees, AllLinksAgree, none, more, sparedLinks, LinkFirst, LinkEnds, withCells, LinkDemand3, LentBytes, knownBy, knownLinks, LinkSound, Linked}
+use Rattle.claim_host.specs.Linked.{link, links, linkedTo, ifHeld, worldBy, ifRuns, used, LinkCut, LinkConfined, LinkAgrees, AllLinksAgree, none, more, sparedLinks, LinkFirst, LinkEnds, withCells, LinkDemand3, LentBytes, knownBy, knownLinks, Linked}
 use Rattle.claim_host.proofs.Says.{by-kept, refused, Says, link-holds, link-wrong, link-says, left-says, left-wrong}
 
 -- ---- answers by their numbers

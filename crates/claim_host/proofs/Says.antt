@@ -7,13 +7,13 @@ use lib.ListN.{length}
 use Rattle.pack.specs.declared.{Shape.Shape}
 use Rattle.held.specs.declared.{Held.Held, Kept.Kept}
 use Rattle.held.specs.declared.Kept.the-variants.{Holds, Wrong}
-use Rattle.held.specs.Held.{encoded, kept}
+use Rattle.held.specs.Held.{kept}
 use Rattle.held.proofs.Inverse.{kept-encoded}
 use Rattle.channel.specs.Channel.{World}
-use Rattle.host.specs.Host.{Hears, answerNo, wrongHeld, starts, goes}
+use Rattle.host.specs.Host.{Hears, answerNo, wrongHeld}
 use Rattle.box_export.specs.Calls.{Call, call, callOf, startKept, startCall, goKept, goCall}
-use Rattle.claim_box.specs.Demand3.{HostCall, start, go, hear, heard, left}
-use Rattle.claim_host.specs.Linked.{link, links, linkedTo, worldBy}
+use Rattle.claim_box.specs.Demand3.{HostCall, start, go, hear, left}
+use Rattle.claim_host.specs.Linked.{link, linkedTo, worldBy}
 
 -- by what the bytes say
 pub by-kept : (v : List ℕ) (P : Type 0) → ((h : Held) → kept v ≡ Holds h → P) → (kept v ≡ Wrong → P) → P

@@ -1,6 +1,6 @@
--- What a host links: start and go over the 64 bytes that it keeps, lent storage and lent cells (`box_export:Calls`, the contracts of `poplar_start` and
--- `poplar_go`). What is claimed of `starts` and `goes` is said here of these calls: an allowance may be cut in parts (demand 1), what may change
--- (demand 2), damage (demand 3), and that soundness lasts. Bytes that encode no held state are among what a host may lend: then nothing runs.
+-- What a host links (REFERENCE 10.2): start and go over the 64 bytes that it keeps, lent storage and lent cells (`box_export:Calls`, the contracts of
+-- `poplar_start` and `poplar_go`). What is claimed of `starts` and `goes` is said here of these calls: an allowance may be cut in parts (demand 1), what may
+-- change (demand 2), damage (demand 3), and that soundness lasts. Bytes that encode no held state are among what a host may lend: then nothing runs.
 use Prim.Native.Nat.{ℕ, _+_, _*_, _<_}
 use mathlib.Core.Path.{_≡_}
 use mathlib.Core.Bool.{Bool, true, false}

@@ -1,13 +1,13 @@
 -- Lists of bytes, by the test of what a host can lend: parts and overlays of bytes are bytes, so is every low byte of a cell.
-use Prim.Native.Nat.{ℕ, zero, suc, _+_, _*_, _%_, _/_, _<_, _≤_}
-use mathlib.Core.Path.{_≡_, refl, sym, ap, _∙_}
-use mathlib.Core.Bool.{Bool, true, false}
+use Prim.Native.Nat.{ℕ, zero, suc, _+_, _%_, _/_, _<_}
+use mathlib.Core.Path.{_≡_, refl}
+use mathlib.Core.Bool.{true}
 use mathlib.Core.List.{List, [], _∷_, _++_}
 use native.Mathlib.Omega.{arith}
-use lib.ListN.{length, getD, take, drop}
+use lib.ListN.{length, take, drop}
 use lib.Dec.{ltb}
 use borrow.Author.Tests.{lt-ltb, ltb-true}
-use Rattle.cells.specs.Cells.{pick, both, part, overlay, byteOf, bytesOf}
+use Rattle.cells.specs.Cells.{overlay, bytesOf}
 use Rattle.cells.proofs.Numbers.{Bytes}
 use Rattle.cells.proofs.Tests.{first-of, second-of, both-of}
 use Rattle.areas.specs.declared.{Area.Area}

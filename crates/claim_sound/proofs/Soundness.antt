@@ -1,7 +1,7 @@
 -- Soundness lasts. By the word: another track's cells stand; on the track under the head only a write lays cells, and none if it ends in Unit Check; Write R0
 -- leaves a soundly written track whatever it was, the others one if it was, but for Write HA (`claim_track:Commands`), after which nothing is known. By the
 -- allowance, the call and the calls: one after another, each from a legal world whose storage is bytes.
-use Prim.Native.Nat.{ℕ, zero, suc, _+_, _*_, _<_, _≤_}
+use Prim.Native.Nat.{ℕ, zero, suc, _+_, _*_}
 use mathlib.Core.Path.{_≡_, refl, sym, ap, _∙_, subst}
 use mathlib.Core.Bool.{Bool, true, false, not, false≢true, true≢false}
 use mathlib.Core.List.{List, [], _∷_}
@@ -21,7 +21,7 @@ use Rattle.words.specs.Words.{AreaFits}
 use Rattle.words.proofs.Obeys.{TestedIn, tested-in}
 use Rattle.pack.specs.declared.{Shape.Shape}
 use Rattle.pack.specs.Pack.{trackNo, startOf, trackAt, withTrack}
-use Rattle.held.specs.declared.{Held.Held, Orders.Orders}
+use Rattle.held.specs.declared.{Orders.Orders}
 use Rattle.table.specs.declared.{Write.Write, Act.Act, Rule.Rule}
 use Rattle.table.specs.Table.{ruleOf, isWrite}
 use Rattle.turn.specs.declared.{Ending.Ending}
@@ -35,7 +35,7 @@ use Rattle.chain.proofs.Legal.{inside, track-whole, turn-left, put-back, step-l
 use Rattle.chain.proofs.Runs.{run-idle}
 use Rattle.host.specs.declared.{Answer.Answer, Guarded.Guarded}
 use Rattle.host.specs.declared.Guarded.the-variants.{Passes, Answers}
-use Rattle.host.specs.Host.{Hears, hears, guardOf, guards, ran, goes, starts, ifPasses}
+use Rattle.host.specs.Host.{hears, guardOf, guards, ran, goes, ifPasses}
 use Rattle.host.proofs.Laws.{passes-legal}
 use Rattle.sound.specs.Sound.{Sound}
 use Rattle.claim_track.specs.Lasting.{Lasts, Leaves, unchanged, written}
@@ -44,9 +44,9 @@ use Rattle.claim_box.specs.Confined.{spares, trackAfter}
 use Rattle.claim_box.specs.Demand3.{track, HostCall, start, go, hear, left}
 use Rattle.claim_box.proofs.Outside.{apart, same-track}
 use Rattle.claim_box.proofs.Confined.{all-confined}
-use Rattle.claim_sound.specs.Soundness.{InBytes, writesHome, writesR0, isThe, testedDone, done, doneOn, knownNext, knownRun, knownGo, knownCall, knownCalls, Known, AllSound, homeKept, homesKept, SoundnessLasts}
+use Rattle.claim_sound.specs.Soundness.{InBytes, writesHome, writesR0, isThe, testedDone, done, doneOn, knownNext, knownRun, knownGo, knownCall, knownCalls, Known, homeKept, homesKept, SoundnessLasts}
 use Rattle.claim_sound.proofs.Bytes.{under-bytes}
-use Rattle.claim_sound.proofs.Words.{step-bytes, run-bytes, call-bytes, calls-bytes}
+use Rattle.claim_sound.proofs.Words.{step-bytes, call-bytes, calls-bytes}
 
 -- ---- a write that was done left what lasts
 

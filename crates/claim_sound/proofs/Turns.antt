@@ -1,31 +1,31 @@
 -- What a command gives are bytes, and what it leaves in sense are bytes. Why: a read gives the low bytes of cells, counts put together from such and taken
 -- apart again, and Sense gives what sense holds; sense is what it was, or nothing, or a row's.
-use Prim.Native.Nat.{ℕ, _+_, _*_, _/_, _%_, _<_}
-use mathlib.Core.Path.{_≡_, refl, sym, ap, _∙_, subst}
-use mathlib.Core.Bool.{Bool, true, false}
-use mathlib.Core.List.{List, [], _∷_, _++_}
+use Prim.Native.Nat.{ℕ, _<_}
+use mathlib.Core.Path.{_≡_, refl}
+use mathlib.Core.Bool.{Bool, true}
+use mathlib.Core.List.{List, [], _∷_}
 use native.Mathlib.Omega.{arith}
-use lib.ListN.{length, getD}
-use lib.Dec.{ltb, eqb, lit<}
+use lib.ListN.{getD}
+use lib.Dec.{lit<}
 use borrow.Author.Tests.{lt-ltb}
-use Rattle.cells.specs.Cells.{pick, both}
+use Rattle.cells.specs.Cells.{pick}
 use Rattle.cells.proofs.Numbers.{Bytes}
 use Rattle.cells.proofs.Tests.{both-of, pick-all}
 use Rattle.rows.specs.declared.{Row.Row, Sense.Sense}
 use Rattle.rows.specs.Rows.{senseOf}
-use Rattle.areas.specs.declared.{Area.Area, Part.Part, Counts.Counts}
-use Rattle.areas.specs.Areas.{readable, areaBytes, rowOf, countArea, countsOf, countsAt, keyArea, dataArea}
+use Rattle.areas.specs.declared.{Part.Part, Counts.Counts}
+use Rattle.areas.specs.Areas.{readable, rowOf, countArea, countsOf, countsAt}
 use Rattle.room.specs.Room.{fits}
 use Rattle.pack.specs.declared.{Head.Head, Shape.Shape, Sought.Sought}
 use Rattle.held.specs.declared.{Position.Position, Orders.Orders}
-use Rattle.table.specs.declared.{Names.Names, Control.Control, Write.Write, Act.Act, Rule.Rule}
+use Rattle.table.specs.declared.{Names.Names, Control.Control, Write.Write, Act.Act}
 use Rattle.table.specs.Table.{ruleOf, isMask}
 use Rattle.turn.specs.declared.{Ending.Ending}
-use Rattle.turn.specs.Turn.{Tracks, TrackArea, Piece, Moves, given, Turn, turn, positionAt, withSense, positionSought, checkTurn}
-use Rattle.command.specs.declared.{Task.Task, Plan.Plan, Got.Got, Job.Job}
+use Rattle.turn.specs.Turn.{Tracks, TrackArea, Piece, Moves, given, Turn, positionAt, withSense, positionSought, checkTurn}
+use Rattle.command.specs.declared.{Task.Task, Plan.Plan, Got.Got}
 use Rattle.command.specs.declared.Plan.the-variants.{Refuses, Works}
 use Rattle.command.specs.declared.Got.the-variants.{Sees, Fails}
-use Rattle.command.specs.Command.{marksOf, planOf, areasOf, areasAt, allRead, noCounts, countsIn, gets, Seen, seen, seenWith, seenOf, Sight, sight, areasRead, failTurn, senseAfter, positionAfter, endTurnAt, endTurn, noOpTurn, senseBytes, senseTurn, addressed, arrivalTurn, seekTurn, maskedTurn, maskTurn, spaceTurn, idOf, fieldTurn, searchTurn, countMoved, offered, readTurn, homeTurn, newTurn, r0Turn, recordTurn, updateTurn, controlTurn, writeTurn, actTurn, jobOf, hasRead, readyBy, planReads, readyTurn, ruleTurn, command}
+use Rattle.command.specs.Command.{marksOf, planOf, areasOf, allRead, countsIn, gets, Seen, seen, seenWith, seenOf, Sight, sight, failTurn, senseAfter, positionAfter, endTurnAt, endTurn, noOpTurn, senseBytes, senseTurn, addressed, arrivalTurn, seekTurn, maskedTurn, maskTurn, spaceTurn, idOf, fieldTurn, searchTurn, countMoved, offered, readTurn, homeTurn, newTurn, r0Turn, recordTurn, updateTurn, controlTurn, writeTurn, actTurn, jobOf, hasRead, readyBy, readyTurn, ruleTurn, command}
 use Rattle.claim_box.specs.Boxes.{allUnder}
 use Rattle.claim_sound.proofs.Bytes.{under-append, high-byte, low-byte, under-bytes, area-under}
 

@@ -1,26 +1,25 @@
 -- Storage of bytes stays bytes, and sense too: by the word, the allowance, the call, the calls. Why: a word places bytes that a command gave, and stores a
 -- status word, whose key, address and count left are numbers of the bytes that they are taken from.
-use Prim.Native.Nat.{ℕ, zero, suc, _+_, _-_, _*_, _/_, _%_, _<_, _≤_, min}
-use mathlib.Core.Path.{_≡_, refl, sym, ap, _∙_, subst}
+use Prim.Native.Nat.{ℕ, zero, suc, _+_, _-_, _*_, _/_, _%_, _<_}
+use mathlib.Core.Path.{_≡_, refl}
 use mathlib.Core.Bool.{Bool, true, false}
 use mathlib.Core.List.{List, [], _∷_}
 use native.Mathlib.Omega.{arith}
-use lib.ListN.{length, getD, take}
-use lib.Dec.{ltb, leb, eqb, lit<}
+use lib.ListN.{length}
+use lib.Dec.{ltb, leb, lit<}
 use borrow.Author.Tests.{lt-ltb}
-use Rattle.cells.specs.Cells.{pick, both, overlay}
+use Rattle.cells.specs.Cells.{pick}
 use Rattle.cells.proofs.Tests.{both-of, pick-all}
-use Rattle.rows.specs.declared.{Sense.Sense}
 use Rattle.words.specs.declared.{Word.Word, Status.Status, Cause.Cause, Tested.Tested, Begun.Begun}
 use Rattle.words.specs.declared.Tested.the-variants.{Obey, Jump, Bad}
 use Rattle.words.specs.declared.Begun.the-variants.{Begins, Refused}
 use Rattle.words.specs.Words.{wordAt, testedCommand, testedWord, tested, statusBytes, stored, statusFor, channelFor, programCheck, flagsKnown, isTic, inPlace, begunBy}
 use Rattle.pack.specs.declared.{Shape.Shape}
-use Rattle.held.specs.declared.{Position.Position, Channel.Channel, Held.Held}
+use Rattle.held.specs.declared.{Channel.Channel, Held.Held}
 use Rattle.held.specs.Held.{rested}
 use Rattle.turn.specs.declared.{Ending.Ending, Report.Report}
 use Rattle.turn.specs.Turn.{Turn, given, reportOf}
-use Rattle.channel.specs.Channel.{fetched, placed, bytesMoved, unitStatus, goesOn, wrongLength, heldAfter, statusAfter, withStatus, storageAfter, World, world, stops, jumped}
+use Rattle.channel.specs.Channel.{fetched, placed, unitStatus, goesOn, wrongLength, heldAfter, statusAfter, withStatus, storageAfter, World, stops, jumped}
 use Rattle.chain.specs.Step.{next, turnOf, settled, obeyed, stepBy, step, run, Legal}
 use Rattle.chain.proofs.Fits.{key-in, channeled}
 use Rattle.chain.proofs.Legal.{step-legal}
@@ -32,7 +31,7 @@ use Rattle.claim_box.specs.Boxes.{allUnder}
 use Rattle.claim_box.specs.Demand3.{HostCall, start, go, hear, left}
 use Rattle.claim_sound.specs.Soundness.{InBytes}
 use Rattle.claim_sound.proofs.Bytes.{under-take, under-overlay, high-byte, low-byte, under-bytes}
-use Rattle.claim_sound.proofs.Turns.{SenseBytes, TurnBytes, command-bytes}
+use Rattle.claim_sound.proofs.Turns.{TurnBytes, command-bytes}
 
 -- ---- the status word
 

@@ -1,6 +1,6 @@
--- Demand 3 takes a soundly written track; this carries soundness from chain to chain. A pack whose tracks are all soundly written stays so through start and
--- go, over every chain, allowance and list of calls in which no Write HA ended without Unit Check; after one that did, its track is soundly written again as
--- soon as a Write R0 on it has ended without one. First: storage of bytes stays bytes, for what is written is fetched from there.
+-- Demand 3 takes a soundly written track; this carries soundness from chain to chain (REFERENCE 9.6). A pack whose tracks are all soundly written stays so
+-- through start and go, over every chain, allowance and list of calls in which no Write HA ended without Unit Check; after one that did, its track is soundly
+-- written again as soon as a Write R0 on it has ended without one. First: storage of bytes stays bytes, for what is written is fetched from there.
 use Prim.Native.Nat.{ℕ, zero, suc, _*_, _<_}
 use mathlib.Core.Path.{_≡_}
 use mathlib.Core.Bool.{Bool, true, false, not}
@@ -16,7 +16,7 @@ use Rattle.turn.specs.Turn.{isCheck}
 use Rattle.channel.specs.Channel.{World}
 use Rattle.chain.specs.Step.{next, turnOf, step, run, Legal}
 use Rattle.host.specs.declared.{Guarded.Guarded}
-use Rattle.host.specs.Host.{guardOf, ifPasses, goes}
+use Rattle.host.specs.Host.{guardOf, ifPasses}
 use Rattle.sound.specs.Sound.{Sound}
 use Rattle.claim_box.specs.Boxes.{allUnder}
 use Rattle.claim_box.specs.Confined.{spares}
