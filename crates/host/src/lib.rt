@@ -17,7 +17,6 @@ ghost use Rattle.cells.specs.Cells.{pick, marks};
 ghost use Rattle.words.specs.Words.{begunBy, tested};
 ghost use Rattle.pack.specs.Pack.{WholePack};
 ghost use Rattle.channel.specs.Channel.{world};
-ghost use Rattle.hunt.specs.Hunt.{spotFits};
 ghost use Rattle.chain.specs.Step.{leastStorage, storageFits, positionFits, channelFits, selectionFits, ordersFit, heldFits};
 ghost use Rattle.host.specs.Host.{hears, guardOf, wrongHeld, refusesStart, beginning, firstWord, begins, starts, goes, answerNo};
 
@@ -95,21 +94,16 @@ fn channel_fits(c: Channel) -> bool
     c.key < KEYS && c.next < ADDRESSES
 }
 
+// R0 and a marker are told apart here: in a function of its own their tag and cell were read as one number, with a byte that nothing sets (DECISIONS 71).
 fn selection_fits(track: &[u16], o: Orders, x: Selection) -> bool
     ensures { λ r. ⌜ r ≡ selectionFits (marks (now (track .entry))) o x ⌝ }
 {
     match x {
         Selection::Nothing => !table::rule_of(o.before).selects,
-        Selection::On(spot) => spot_fits(track, spot),
-    }
-}
-
-fn spot_fits(track: &[u16], spot: Spot) -> bool
-    ensures { λ r. ⌜ r ≡ spotFits (marks (now (track .entry))) spot ⌝ }
-{
-    match spot {
-        Spot::R0 => true,
-        Spot::Marker(p) => hunt::is_marker(track, p),
+        Selection::On(spot) => match spot {
+            Spot::R0 => true,
+            Spot::Marker(p) => hunt::is_marker(track, p),
+        },
     }
 }
 
