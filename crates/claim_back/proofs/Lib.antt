@@ -1,0 +1,4 @@
+-- What is claimed of words back to back, proved.
+pub mod FoundWalk
+pub mod FoundWord
+pub mod Found
