@@ -31,8 +31,9 @@ use Rattle.chain.proofs.Runs.{run-on, run-split}
 use Rattle.claim_track.specs.Damage.{IsRecord, ownCount}
 use Rattle.claim_track.proofs.Areas.{begun-marker, own-readable}
 use Rattle.claim_back.specs.Found.{idAt, searchId, marked, Seeks, foundHeld, foundAt, InLoop, Comes, Found}
-use Rattle.claim_back.proofs.FoundWalk.{Walk, here, on, Lies, walk}
+use Rattle.claim_back.proofs.FoundWalk.{marked-most, Walk, here, on, Lies, walk}
 use Rattle.claim_back.proofs.FoundWord.{misses, meets, searched, search-step, tic-step}
+use Rattle.claim_back.proofs.FoundMet.{met}
 
 module _ (g : Shape) (w : World) (p flags : ℕ) (r : Spot) (S : Seeks g w p flags r) where
   abbrev t : List ℕ
@@ -179,6 +180,7 @@ module _ (g : Shape) (w : World) (p flags : ℕ) (r : Spot) (S : Seeks g w p fla
   comes-to = record {
     words = R .words;
     most = omega (arith, R .most, way .2);
+    allowed = omega (arith, R .most, way .2, marked-most m, length-marks t, S .sound .long);
     before = R .before;
     found = ends;
     enough = λ n h.
@@ -198,4 +200,4 @@ module _ (g : Shape) (w : World) (p flags : ℕ) (r : Spot) (S : Seeks g w p fla
       ends = R .found ∙ is-found
 
 pub found : Found
-found = record { comes = comes-to }
+found = record { comes = comes-to; met = met }

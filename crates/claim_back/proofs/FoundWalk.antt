@@ -47,6 +47,13 @@ fewer zero m = omega arith
 fewer (suc n) [] = omega arith
 fewer (suc n) (b ∷ m) = omega (arith, fewer n m)
 
+-- no more than cells
+pub marked-most : (m : List Bool) → marked m ≤ length m
+unfolding marked
+marked-most [] = omega arith
+marked-most (true ∷ m) = omega (arith, marked-most m)
+marked-most (false ∷ m) = omega (arith, marked-most m)
+
 module _ (m : List Bool) where
   fewer-on : (p n : ℕ) → marked (drop (p + n) m) ≤ marked (drop p m)
   fewer-on p n = subst (λ (l : List Bool). marked l ≤ marked (drop p m)) (drop-drop n p m) (fewer n (drop p m))

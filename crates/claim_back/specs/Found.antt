@@ -20,6 +20,8 @@ use Rattle.channel.specs.Channel.{fetched, World, world}
 use Rattle.chain.specs.Step.{trackUnder, run, Legal}
 use Rattle.sound.specs.Sound.{Sound}
 use Rattle.claim_track.specs.Damage.{IsRecord}
+use Rattle.claim_box.specs.Figures.{onePack}
+use Rattle.claim_box.specs.Reading.{stocked, startedOn, chained}
 
 -- ---- the track
 
@@ -92,6 +94,8 @@ pub record InLoop (w v : World) : Type 0 where
 pub record Comes (g : Shape) (w : World) (r : Spot) : Type 0 where
   pub words : ℕ
   pub most : words ≤ 2 * marked (marks (trackUnder g w)) + 1
+  -- one allowance, of at most 65,535 words, is enough
+  pub allowed : words ≤ 65535
   pub before : (i : ℕ) → i < words → InLoop w (run g i w)
   pub found : run g words w ≡ foundAt w r
   -- any allowance that is enough passes there
@@ -99,3 +103,5 @@ pub record Comes (g : Shape) (w : World) (r : Spot) : Type 0 where
 
 pub record Found : Type 0 where
   pub comes : (g : Shape) (w : World) (p flags : ℕ) (r : Spot) → Seeks g w p flags r → Comes g w r
+  -- such chains there are: on claim_box:Reading's track, from a fresh box, for its last record
+  pub met : Seeks onePack (startedOn stocked (chained 0x12 8) 3) 128 0x40 (Spot.Marker 75)
