@@ -10,16 +10,15 @@ use lib.Dec.{ltb}
 use Rattle.cells.specs.Cells.{pick, marks}
 use Rattle.cells.proofs.Marks.{length-marks}
 use Rattle.rows.specs.declared.{Sense.Sense}
-use Rattle.words.specs.declared.{Tested.Tested}
 use Rattle.words.specs.Words.{wordBytes, along}
 use Rattle.areas.specs.Areas.{countArea, readable}
-use Rattle.hunt.specs.declared.{Spot.Spot, Next.Next}
+use Rattle.hunt.specs.declared.{Spot.Spot}
 use Rattle.hunt.specs.declared.Spot.the-variants.{R0, Marker}
 use Rattle.hunt.specs.declared.Next.the-variants.{ComesTo}
 use Rattle.hunt.specs.Hunt.{spotFits, countFirst, nextId}
 use Rattle.hunt.proofs.Inside.{NextOn, id-on, spot-in}
 use Rattle.pack.specs.declared.{Shape.Shape}
-use Rattle.held.specs.declared.{Selection.Selection, Held.Held}
+use Rattle.held.specs.declared.{Selection.Selection}
 use Rattle.held.specs.Held.{noSense}
 use Rattle.table.specs.declared.{How.How}
 use Rattle.command.specs.Command.{satisfied}
@@ -30,8 +29,8 @@ use Rattle.chain.proofs.Fits.{next-in, channeled}
 use Rattle.chain.proofs.Runs.{run-on, run-split}
 use Rattle.claim_track.specs.Damage.{IsRecord, ownCount}
 use Rattle.claim_track.proofs.Areas.{begun-marker, own-readable}
-use Rattle.claim_back.specs.Found.{idAt, searchId, marked, Seeks, foundHeld, foundAt, InLoop, Comes, Found}
-use Rattle.claim_back.proofs.FoundWalk.{marked-most, Walk, here, on, Lies, walk}
+use Rattle.claim_back.specs.Found.{idAt, Seeks, foundHeld, foundAt, InLoop, Comes, Found}
+use Rattle.claim_back.proofs.FoundWalk.{marked-most, Walk, here, on, Lies, Way, walk}
 use Rattle.claim_back.proofs.FoundWord.{misses, meets, searched, search-step, tic-step}
 use Rattle.claim_back.proofs.FoundMet.{met}
 
@@ -188,7 +187,7 @@ module _ (g : Shape) (w : World) (p flags : ℕ) (r : Spot) (S : Seeks g w p fla
         ap (λ (k : ℕ). run g k w) (sym z) ∙ run-split g (R .words) (n - R .words) w ∙ ap (run g (n - R .words)) ends;
   }
     where
-      way : (k : ℕ) × Walk m r place 0 k passed × (k ≤ marked m)
+      way : Way m place r passed
       way = walk m place r (lies r (S .there))
 
       R : Reaches (way .0) passed w

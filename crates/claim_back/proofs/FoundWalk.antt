@@ -13,10 +13,10 @@ use lib.Seq.{drop-cons, drop-drop}
 use lib.Dec.{ltb}
 use borrow.Author.Tests.{lt-ltb, le-ltb}
 use Rattle.cells.specs.Cells.{pick}
-use Rattle.hunt.specs.declared.{Found.Found, Spot.Spot, Next.Next}
+use Rattle.hunt.specs.declared.{Spot.Spot}
 use Rattle.hunt.specs.declared.Found.the-variants.{At, Nothing}
 use Rattle.hunt.specs.declared.Spot.the-variants.{R0, Marker}
-use Rattle.hunt.specs.declared.Next.the-variants.{ComesTo, NoMarker}
+use Rattle.hunt.specs.declared.Next.the-variants.{ComesTo}
 use Rattle.hunt.specs.Hunt.{scan, hunt, aheadOr, nextId, countFirst}
 use Rattle.hunt.proofs.Laws.{id-low, id-high}
 use Rattle.claim_back.specs.Found.{marked}
@@ -136,35 +136,35 @@ module _ (m : List Bool) where
 
 -- ---- from any place to any record: past each other one at most once, and past the index unless it lies ahead
 
--- .. which is so with a tally that is known
-abbrev Comes : List Bool → ℕ → Spot → ℕ → Type 0
-Comes m p r j = (k : ℕ) × Walk m r p 0 k j × (k ≤ marked m)
+-- ending with tally j
+abbrev pub Way : List Bool → ℕ → Spot → ℕ → Type 0
+Way m p r j = (k : ℕ) × Walk m r p 0 k j × (k ≤ marked m)
 
 module _ (m : List Bool) (p : ℕ) where
-  to-r0 : Comes m p R0 (pick (ltb p 7) 0 1)
+  to-r0 : Way m p R0 (pick (ltb p 7) 0 1)
   to-r0 = go (decLt p 7)
     where
-      go : Dec (p < 7) → Comes m p R0 (pick (ltb p 7) 0 1)
-      go (yes h) = subst (Comes m p R0) (ap (λ (b : Bool). pick b 0 1) (sym (lt-ltb p 7 h))) (0, here 0 (sym (id-low m p h)) refl (omega arith), omega arith)
+      go : Dec (p < 7) → Way m p R0 (pick (ltb p 7) 0 1)
+      go (yes h) = subst (Way m p R0) (ap (λ (b : Bool). pick b 0 1) (sym (lt-ltb p 7 h))) (0, here 0 (sym (id-low m p h)) refl (omega arith), omega arith)
       go (no h) =
-          subst (Comes m p R0) (ap (λ (b : Bool). pick b 0 1) (sym (le-ltb p 7 (omega arith)))) (
+          subst (Way m p R0) (ap (λ (b : Bool). pick b 0 1) (sym (le-ltb p 7 (omega arith)))) (
             marked (drop p m) + 0,
             past m R0 0 1 (λ p e. here 1 e refl (omega arith)) (length m) p (omega arith) (omega arith) (λ x l e. marker-no-r0 x (omega arith) e),
             omega (arith, fewer p m),
           )
 
   module _ (q : ℕ) (low : 7 ≤ q) (inside : q < length m) (mark : getD m q false ≡ true) where
-    to-marker : Comes m p (Marker q) (pick (ltb p (q + 1)) 0 1)
+    to-marker : Way m p (Marker q) (pick (ltb p (q + 1)) 0 1)
     unfolding countFirst
     to-marker = go (decLt p 7) (decLt p (q + 1))
       where
         no-r0 : R0 ≡ Marker q → ⊥
         no-r0 e = marker-no-r0 q low (sym e)
 
-        is : (b : Bool) → ltb p (q + 1) ≡ b → Comes m p (Marker q) (pick b 0 1) → Comes m p (Marker q) (pick (ltb p (q + 1)) 0 1)
-        is b e w = subst (λ (x : Bool). Comes m p (Marker q) (pick x 0 1)) (sym e) w
+        is : (b : Bool) → ltb p (q + 1) ≡ b → Way m p (Marker q) (pick b 0 1) → Way m p (Marker q) (pick (ltb p (q + 1)) 0 1)
+        is b e w = subst (λ (x : Bool). Way m p (Marker q) (pick x 0 1)) (sym e) w
 
-        go : Dec (p < 7) → Dec (p < q + 1) → Comes m p (Marker q) (pick (ltb p (q + 1)) 0 1)
+        go : Dec (p < 7) → Dec (p < q + 1) → Way m p (Marker q) (pick (ltb p (q + 1)) 0 1)
         go (yes h) l =
             let a = ahead m q inside mark (q - 7) 7 0 (omega arith) (omega arith) (omega arith) in
             is true (lt-ltb p (q + 1) (omega arith)) (suc (a .0), on R0 0 0 (sym (id-low m p h)) refl (omega arith) no-r0 (a .1), omega (arith, a .2, fewer 7 m))
@@ -182,7 +182,7 @@ module _ (m : List Bool) (p : ℕ) where
               omega (arith, a .2, fewer 7 m, subst (λ (x : ℕ). marked (drop x m) ≤ marked (drop (q + 1) m)) z f),
             )
 
-pub walk : (m : List Bool) (p : ℕ) (r : Spot) → Lies m r → (k : ℕ) × Walk m r p 0 k (pick (ltb p (countFirst r)) 0 1) × (k ≤ marked m)
+pub walk : (m : List Bool) (p : ℕ) (r : Spot) → Lies m r → Way m p r (pick (ltb p (countFirst r)) 0 1)
 unfolding countFirst
 walk m p R0 there = to-r0 m p
 walk m p (Marker q) there = to-marker m p q (there .0) (there .1) (there .2)

@@ -1,36 +1,36 @@
 -- The two words of the loop. Search ID over five bytes comes to a record, whose count is readable, and moves five bytes of five; it is satisfied by the
 -- record whose ID was sent and by no other, since five bytes are one number and no other five are. The TIC leaves all but the next word's address.
-use Prim.Native.Nat.{ℕ, zero, suc, _+_, _*_, _/_, _%_, _<_, _≤_}
-use mathlib.Core.Path.{_≡_, refl, sym, ap, ap₂, _∙_, subst}
+use Prim.Native.Nat.{ℕ, zero, suc, _+_, _*_, _<_, _≤_}
+use mathlib.Core.Path.{_≡_, refl, sym, ap, _∙_, subst}
 use mathlib.Core.Bool.{Bool, true, false, not}
 use mathlib.Core.List.{List, [], _∷_}
 use native.Mathlib.Omega.{arith}
 use lib.ListN.{length, getD}
 use lib.Dec.{ltb}
 use borrow.Author.Tests.{le-ltb, ne-eqb}
-use Rattle.cells.specs.Cells.{pick, both, numberFrom, number, marks, bytesOf, be16}
+use Rattle.cells.specs.Cells.{pick, both, numberFrom, number, marks}
 use Rattle.cells.proofs.Laws.{overlay-none, getD-bytesOf}
 use Rattle.cells.proofs.Marks.{both-never}
 use Rattle.cells.proofs.Numbers.{Bytes}
 use Rattle.rows.specs.declared.{Row.Row}
 use Rattle.words.specs.declared.{Word.Word, Tested.Tested}
 use Rattle.words.specs.Words.{wordBytes, chains, suppresses, stored}
-use Rattle.areas.specs.declared.{Area.Area, Counts.Counts, CountRead.CountRead}
+use Rattle.areas.specs.declared.{Area.Area, CountRead.CountRead}
 use Rattle.areas.specs.Areas.{readable, areaBytes, rowOf, countArea, countsOf, countsAt, readCount}
-use Rattle.hunt.specs.declared.{Spot.Spot, Next.Next}
+use Rattle.hunt.specs.declared.{Spot.Spot}
 use Rattle.hunt.specs.declared.Next.the-variants.{ComesTo}
 use Rattle.hunt.specs.Hunt.{nextId, countFirst}
 use Rattle.compare.specs.declared.{Compared.Compared}
 use Rattle.compare.specs.Compare.{compared}
 use Rattle.compare.proofs.Laws.{compared-same}
-use Rattle.pack.specs.declared.{Head.Head, Shape.Shape}
-use Rattle.held.specs.declared.{Selection.Selection, Position.Position, Orders.Orders, Channel.Channel, Held.Held}
+use Rattle.pack.specs.declared.{Shape.Shape}
+use Rattle.held.specs.declared.{Selection.Selection, Position.Position, Orders.Orders}
 use Rattle.held.specs.Held.{noSense, rested}
-use Rattle.table.specs.declared.{How.How, Aim.Aim, Names.Names, Serves.Serves, Rule.Rule}
+use Rattle.table.specs.declared.{How.How, Aim.Aim, Serves.Serves, Rule.Rule}
 use Rattle.table.specs.Table.{count, selects, searchRow, find, controls, searches, ruleOf}
 use Rattle.turn.specs.declared.{Ending.Ending}
-use Rattle.turn.specs.Turn.{Tracks, TrackArea, Takes, Turn, turn, given, transferOf, wants, reportOf, isCheck, positionAt, ordersOf, after}
-use Rattle.command.specs.declared.{Got.Got, Task.Task, Plan.Plan, Ready.Ready}
+use Rattle.turn.specs.Turn.{Tracks, TrackArea, Takes, Turn, turn, given, transferOf, wants, reportOf, isCheck, positionAt, after}
+use Rattle.command.specs.declared.{Got.Got, Task.Task}
 use Rattle.command.specs.declared.Got.the-variants.{Sees, Fails}
 use Rattle.command.specs.declared.Plan.the-variants.{Refuses, Works}
 use Rattle.command.specs.Command.{marksOf, licensed, task, tallies, onRecord, onNext, aimed, unlessBarred, planOf, areaIf, named, namedBy, onHead, areasOf, allRead, countsIn, gets, areasRead, sight, senseAfter, positionAfter, ordersAfter, endTurnAt, endTurn, idBytes, idOf, fieldOf, comparison, satisfies, satisfiesField, equalOnly, satisfied, wholly, fieldTurn, searchTurn, actTurn, hasRead, readyBy, planReads, readyTurn, ruleTurn, command}

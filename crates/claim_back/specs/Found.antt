@@ -44,13 +44,13 @@ marked (b ∷ m) = pick b 1 0 + marked m
 abbrev pub searchId : ℕ → ℕ → Word
 searchId p flags = record { code = 0x31; address = p; flags = flags; count = idBytes }
 
--- at a such a word that chains, right in itself, after the TIC too; 8 on a TIC to a
+-- at a such a word, which chains and passes its tests, after a TIC too; 8 on a TIC back to it
 pub record Loop (s : List ℕ) (a p flags : ℕ) : Type 0 where
   pub search : (afterTic : Bool) → tested s a afterTic ≡ Tested.Obey (searchId p flags)
   pub chained : chains (searchId p flags) ≡ true
   pub back : tested s (along a wordBytes) false ≡ Tested.Jump a
 
--- a chain that goes on at such a loop, from any place, with index tally 0; the five bytes are the ID of a record of the track under the head
+-- a chain whose next word is such a loop's first, at any place, with index tally 0; the five bytes are the ID of record r of the track under the head
 pub record Seeks (g : Shape) (w : World) (p flags : ℕ) (r : Spot) : Type 0 where
   pub legal : Legal g w
   pub going : w .held .channel .going ≡ true
@@ -63,8 +63,8 @@ pub record Seeks (g : Shape) (w : World) (p flags : ℕ) (r : Spot) : Type 0 whe
 
 -- ---- what it comes to
 
--- the search was satisfied by a record: the place is behind its marker, it is selected, and 31 was equal over the whole field, which licenses a write; the
--- index point was passed unless the record lay ahead; the next word is 16 on; nothing is in sense, and the mask stands
+-- 31 was satisfied by r, over its whole field, which licenses a write: r is selected, the place is behind its marker, the index point was passed unless r lay
+-- ahead of the place before, and the next word is 16 on. Sense is clear, and the mask stands
 unfoldable pub foundHeld : Held → Spot → Held
 foundHeld h r = record {
   position = record { cylinder = h .position .cylinder; head = h .position .head; place = countFirst r; sense = noSense };
@@ -90,7 +90,7 @@ pub record InLoop (w v : World) : Type 0 where
   pub storage : v .storage ≡ w .storage
   pub cells : v .cells ≡ w .cells
 
--- after so many words: a search of R0 and of each record with a marker, each at most once, and a TIC between two of them
+-- after so many words: R0 and each record with a marker is searched at most once, and a TIC stands between two searches
 pub record Comes (g : Shape) (w : World) (r : Spot) : Type 0 where
   pub words : ℕ
   pub most : words ≤ 2 * marked (marks (trackUnder g w)) + 1
