@@ -1,0 +1,2 @@
+-- What is claimed of words back to back.
+pub mod Found
