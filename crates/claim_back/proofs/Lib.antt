@@ -1,0 +1,4 @@
+-- What is claimed, proved.
+pub mod Counts
+pub mod Plans
+pub mod Given

@@ -1,0 +1,2 @@
+-- What is claimed of the box when it reads again what it wrote.
+pub mod Back
