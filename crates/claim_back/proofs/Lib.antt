@@ -2,3 +2,5 @@
 pub mod Counts
 pub mod Plans
 pub mod Given
+pub mod Left
+pub mod After
