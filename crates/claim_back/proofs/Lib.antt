@@ -4,3 +4,6 @@ pub mod Plans
 pub mod Given
 pub mod Left
 pub mod After
+pub mod Again
+pub mod Lost
+pub mod Back

@@ -200,7 +200,14 @@ pub record Back (g : Shape) (u : World) (e : Word) (x : Sent) (v : List ℕ) : T
   -- "as far as its count goes"
   pub places : (i : ℕ) → i < min (e .count) (length v) → clear g u e i ≡ true → getD (step g u .storage) (e .address + i) 0 ≡ getD v i 0
 
--- a read that names a key that cannot be read
+-- the record selected has a key, which cannot be read
+pub record KeyUnreadable (g : Shape) (w : World) : Type 0 where
+  pub spot : Spot
+  pub is : w .held .orders .selection ≡ Selection.On spot
+  pub some : 0 < countsThere g w .kl
+  pub unreadable : readable (trackUnder g w) (keyArea (countFirst spot) (countsThere g w)) ≡ false
+
+-- Data Check, and no byte is given
 pub record KeyLost (g : Shape) (u : World) (e : Word) : Type 0 where
   pub ending : turnOf g u e .ending ≡ Ending.Check (rowOf Part.Key)
   pub nothing : given (turnOf g u e .moves) ≡ []
@@ -209,7 +216,8 @@ pub record KeyLost (g : Shape) (u : World) (e : Word) : Type 0 where
 
 pub record WrittenReadsBack (g : Shape) : Type 0 where
   -- "with no later write on that track": its cells are those that the write left
-  pub kept : (m : ℕ) (w v : World) → Since g m w v → trackAt (v .cells) (m * trackCells) ≡ trackAt (w .cells) (m * trackCells)
+  pub kept : (m : ℕ) (w v : World) → Since g m w v
+      → (trackAt (v .cells) (m * trackCells) ≡ trackAt (w .cells) (m * trackCells)) × (length (v .cells) ≡ length (w .cells))
   -- "places, of each area that the write laid and as far as its count goes, the bytes sent, zeros for those missing"
   pub read : (w : World) (d : Word) (k : Write) (u : World) (e : Word) (c : Bool) → Rereads g w d k u e c → namesPassed g w k e ≡ false
       → Back g u e (sentAt g w d k) (askedBy e c (sentAt g w d k))
@@ -220,6 +228,8 @@ pub record WrittenReadsBack (g : Shape) : Type 0 where
       → sparesByte g (e .address + i) (n - j - 1) (step g (run g j v)) ≡ true
       → getD (goes g n v .left .storage) (e .address + i) 0 ≡ getD (askedBy e c (sentAt g w d k)) i 0
   -- "A key that was unreadable before an 05 stays so"
-  pub stays : (w : World) (d : Word) (u : World) (spot : Spot) → Wrote g w d (Write.Update false) → w .held .orders .selection ≡ Selection.On spot
-      → 0 < countsThere g w .kl → readable (trackUnder g w) (keyArea (countFirst spot) (countsThere g w)) ≡ false
-      → readable (trackUnder g (step g w)) (keyArea (countFirst spot) (countsThere g w)) ≡ false
+  pub stays : (w : World) (d : Word) (K : KeyUnreadable g w) → Wrote g w d (Write.Update false)
+      → readable (trackAt (step g w .cells) (trackOn g w * trackCells)) (keyArea (countFirst (K .spot)) (countsThere g w)) ≡ false
+  -- "a read that names it ends in Data Check"
+  pub lost : (w : World) (d : Word) (u : World) (e : Word) (c : Bool) → KeyUnreadable g w → Rereads g w d (Write.Update false) u e c
+      → namesKey (ruleOf (e .code) .names) ≡ true → KeyLost g u e
