@@ -72,7 +72,7 @@ takenBy Aim.NextId m s o = OnNothing
 takenBy Aim.Selected m s o = OnNothing
 takenBy Aim.Stays m s o = OnNothing
 
--- ---- "the bytes sent, zeros for those missing", of each area; a count's are the 8 that move
+-- ---- "the bytes sent", of each area; a count's are the 8 that move
 
 pub record Sent : Type 0 where
   pub home : List ℕ
@@ -80,7 +80,7 @@ pub record Sent : Type 0 where
   pub key : List ℕ
   pub body : List ℕ
 
--- n of the bytes v from one on
+-- n of the bytes v from one on, zeros for those missing
 abbrev pub bytesFrom : List ℕ → ℕ → ℕ → List ℕ
 bytesFrom v from n = padded n (part v from n)
 
@@ -188,7 +188,7 @@ sentAt g w d k = sentBy k (countsThere g w) (fetched (w .storage) d)
 abbrev pub askedBy : Word → Bool → Sent → List ℕ
 askedBy e counted x = asked (ruleOf (e .code) .names) counted x
 
--- byte i of a word's area is one where its read may leave it: no status word goes over it, which is stored where the chain ends
+-- the status word, which is stored where the chain ends, does not go over byte i of the word's area
 abbrev pub clear : Shape → World → Word → ℕ → Bool
 clear g u e i = either (goesOn e (reportOf (turnOf g u e))) (not (inStatus (e .address + i)))
 
