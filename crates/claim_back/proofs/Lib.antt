@@ -7,3 +7,4 @@ pub mod After
 pub mod Again
 pub mod Lost
 pub mod Back
+pub mod Example
