@@ -11,11 +11,11 @@ use Rattle.cells.specs.Cells.{pick, part, trackCells}
 use Rattle.pack.specs.declared.{Shape.Shape}
 use Rattle.pack.specs.Pack.{trackAt}
 use Rattle.channel.specs.Channel.{World}
-use Rattle.chain.specs.Step.{run, Legal}
+use Rattle.chain.specs.Step.{run}
 use Rattle.chain.proofs.Runs.{run-sizes}
 use Rattle.host.specs.declared.{Guarded.Guarded}
 use Rattle.host.specs.declared.Guarded.the-variants.{Passes, Answers}
-use Rattle.host.specs.Host.{hears, guardOf, guards, ran, goes, starts}
+use Rattle.host.specs.Host.{hears, guardOf, guards, ran, goes}
 use Rattle.host.specs.declared.Answer.the-variants.{NoChain}
 use Rattle.host.proofs.Laws.{passes-legal}
 use Rattle.claim_box.proofs.Runs.{run-confined}

@@ -17,7 +17,7 @@ use Rattle.claim_box.specs.Figures.{onePack}
 use Rattle.claim_box.specs.Reading.{stocked}
 use Rattle.claim_box.proofs.Opened.{box}
 use Rattle.claim_back.specs.Back.{selected, behind, leftBy, comesTo, byMarker, takenBy, newSent, updateSent, sentBy, asked, namesKey, passesKey, now, countsOn, Wrote}
-use Rattle.claim_back.specs.Example.{toWrite, toRead, theWrite, theRead, new, keyGap, over, Example}
+use Rattle.claim_back.specs.Example.{toWrite, toRead, theWrite, new, keyGap, over, Example}
 
 unfoldable allUnder : List ℕ → Bool
 allUnder [] = true

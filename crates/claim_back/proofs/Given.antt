@@ -1,28 +1,27 @@
 -- A read of a record whose areas are readable and hold what was sent gives just that; one that names a key that is not readable ends in Data Check. Why: it
 -- reads the count, then each area that it names and that is there, and gives their bytes in this order.
 use Prim.Native.Nat.{ℕ, _<_}
-use mathlib.Core.Path.{_≡_, refl, sym, ap, ap₂, _∙_}
-use mathlib.Core.Bool.{Bool, true, false, false≢true}
-use mathlib.Core.List.{List, [], _∷_, _++_}
+use mathlib.Core.Path.{_≡_, refl, sym, ap, _∙_}
+use mathlib.Core.Bool.{Bool, true, false}
+use mathlib.Core.List.{List, [], _++_}
 use native.Mathlib.Omega.{arith}
 use lib.ListN.{length}
 use lib.Dec.{ltb, eqb}
 use borrow.Author.Tests.{ltb-true, ltb-false, lt-ltb}
-use Rattle.cells.specs.Cells.{pick, both, part, padded, bytesOf}
+use Rattle.cells.specs.Cells.{pick, both, part, bytesOf}
 use Rattle.cells.proofs.Tests.{first-of, second-of, first-picked, second-picked, both-of}
 use Rattle.areas.specs.declared.{Area.Area, Part.Part, Counts.Counts, CountRead.CountRead}
-use Rattle.areas.specs.Areas.{homeBytes, homeArea, countArea, keyArea, dataArea, readable, rowOf, areaBytes, countsAt, readCount}
+use Rattle.areas.specs.Areas.{homeArea, countArea, keyArea, dataArea, readable, rowOf, areaBytes, countsAt, readCount}
 use Rattle.pack.specs.declared.{Head.Head, Shape.Shape}
 use Rattle.held.specs.declared.{Position.Position, Orders.Orders}
-use Rattle.table.specs.declared.{Names.Names, Act.Act, Rule.Rule}
+use Rattle.table.specs.declared.{Names.Names, Act.Act}
 use Rattle.table.specs.Table.{ruleOf}
-use Rattle.turn.specs.declared.{Ending.Ending}
 use Rattle.turn.specs.declared.Ending.the-variants.{Normal, Exception}
-use Rattle.turn.specs.Turn.{Tracks, TrackArea, Moves, Gives, Turn, checkTurn}
-use Rattle.command.specs.declared.{Got.Got, Task.Task, Plan.Plan}
+use Rattle.turn.specs.Turn.{Tracks, Gives, Turn, checkTurn}
+use Rattle.command.specs.declared.{Got.Got, Task.Task}
 use Rattle.command.specs.declared.Got.the-variants.{Sees, Fails}
 use Rattle.command.specs.declared.Plan.the-variants.{Works}
-use Rattle.command.specs.Command.{marksOf, planOf, areaIf, named, namedBy, onHead, areasOf, areasAt, allRead, noCounts, countsIn, gets, Seen, seenWith, seenOf, Sight, areasRead, sight, endTurnAt, endTurn, endingOf, countMoved, offered, readTurn, actTurn, jobOf, command}
+use Rattle.command.specs.Command.{marksOf, planOf, areaIf, named, namedBy, onHead, areasOf, areasAt, allRead, noCounts, countsIn, gets, seenWith, seenOf, areasRead, sight, endTurnAt, endTurn, endingOf, countMoved, offered, readTurn, actTurn, jobOf, command}
 use Rattle.command.proofs.Seen.{area-bytes, record-key, record-body}
 use Rattle.claim_track.specs.Lasting.{ReadsAs}
 use Rattle.claim_back.specs.Back.{Sent, asked}

@@ -6,10 +6,10 @@ use mathlib.Core.Bool.{Bool, true, false, not, false≢true}
 use mathlib.Core.List.{List, []}
 use mathlib.Core.Logic.{inl}
 use native.Mathlib.Omega.{arith}
-use lib.ListN.{length, getD}
+use lib.ListN.{length}
 use lib.Dec.{ltb}
 use borrow.Author.Tests.{lt-ltb}
-use Rattle.cells.specs.Cells.{pick, both, either, part, padded, trackCells, overlay}
+use Rattle.cells.specs.Cells.{both, either, part, padded, trackCells, overlay}
 use Rattle.cells.proofs.Laws.{length-padded, part-overlay}
 use Rattle.cells.proofs.Marks.{both-never}
 use Rattle.cells.proofs.Numbers.{Bytes, part-bytes}
@@ -23,9 +23,9 @@ use Rattle.hunt.specs.Hunt.{countFirst}
 use Rattle.pack.specs.declared.{Shape.Shape}
 use Rattle.pack.specs.Pack.{startOf, trackAt, withTrack}
 use Rattle.held.specs.declared.{Selection.Selection, Orders.Orders}
-use Rattle.held.specs.declared.Selection.the-variants.{Nothing, On}
+use Rattle.held.specs.declared.Selection.the-variants.{On}
 use Rattle.format.specs.Format.{newCounts}
-use Rattle.table.specs.declared.{Write.Write, Act.Act, Rule.Rule}
+use Rattle.table.specs.declared.{Write.Write, Act.Act}
 use Rattle.table.specs.Table.{ruleOf}
 use Rattle.turn.specs.Turn.{Turn, isCheck, lay}
 use Rattle.command.specs.Command.{licensed, keySent}
@@ -41,7 +41,7 @@ use Rattle.claim_track.proofs.Commands.{writes-leave}
 use Rattle.claim_box.specs.Confined.{inArea, inKey, inData, reaches, recordTaken, reachesFrom, actReaches, bars, mayChange, trackAfter, CommandConfined}
 use Rattle.claim_box.proofs.Outside.{out-test}
 use Rattle.claim_box.proofs.Commands.{command-confined}
-use Rattle.claim_back.specs.Back.{Work, OnHome, OnRecord, OnNothing, selected, behind, leftBy, Sent, newSent, updateSent, sentBy, passesKey, countsOn, trackOn, sentAt, Wrote}
+use Rattle.claim_back.specs.Back.{Work, OnHome, OnRecord, OnNothing, selected, behind, leftBy, Sent, newSent, updateSent, sentBy, passesKey, countsOn, trackOn, Wrote}
 use Rattle.claim_back.proofs.Counts.{new-moved}
 use Rattle.claim_back.proofs.Plans.{update-read}
 use Rattle.claim_back.proofs.Given.{Holds}

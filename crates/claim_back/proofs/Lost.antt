@@ -12,16 +12,17 @@ use Rattle.hunt.specs.Hunt.{countFirst}
 use Rattle.pack.specs.declared.{Shape.Shape}
 use Rattle.pack.specs.Pack.{trackAt}
 use Rattle.held.specs.declared.{Position.Position, Orders.Orders}
-use Rattle.table.specs.declared.{Names.Names, Write.Write}
+use Rattle.table.specs.declared.{Write.Write}
 use Rattle.table.specs.Table.{ruleOf}
 use Rattle.turn.specs.Turn.{Tracks, given, Turn, lay, checkTurn}
 use Rattle.command.specs.Command.{marksOf}
 use Rattle.channel.specs.Channel.{fetched, World}
 use Rattle.chain.specs.Step.{under, trackUnder, tracksOf, turnOf, step}
-use Rattle.claim_back.specs.Back.{OnRecord, selected, leftBy, takenBy, namesKey, countsOn, trackOn, countsThere, Wrote, Rereads, KeyUnreadable, KeyLost}
+use Rattle.claim_back.specs.Back.{OnRecord, selected, leftBy, takenBy, namesKey, countsOn, Since, trackOn, countsThere, Wrote, Rereads, KeyUnreadable, KeyLost}
 use Rattle.claim_back.proofs.Plans.{NamesCount, record-plan, record-named}
 use Rattle.claim_back.proofs.Given.{key-checked}
 use Rattle.claim_back.proofs.Left.{track-left, count-same, count-readable, key-same}
+use Rattle.claim_back.proofs.After.{track-kept}
 use Rattle.claim_back.proofs.Again.{track-same}
 
 module _ (g : Shape) (w : World) (d : Word) (K : KeyUnreadable g w) where
@@ -43,8 +44,11 @@ module _ (g : Shape) (w : World) (d : Word) (K : KeyUnreadable g w) where
     stays-there : readable (lay (turnOf g w d .lays) (trackUnder g w)) (keyArea c n) ≡ false
     stays-there = key-same g w d W (K .spot) (K .is) some ∙ ap (λ (m : Counts). readable (trackUnder g w) (keyArea c m)) (sym there) ∙ K .unreadable
 
-    pub stays : readable (trackAt (step g w .cells) (trackOn g w * trackCells)) (keyArea c (countsThere g w)) ≡ false
-    stays = (λ i. readable (track-left g w (W .legal) d (W .word) i) (keyArea c (there i))) ∙ stays-there
+    pub stays : (u : World) → Since g (trackOn g w) (step g w) u
+        → readable (trackAt (u .cells) (trackOn g w * trackCells)) (keyArea c (countsThere g w)) ≡ false
+    stays u s =
+        let same = track-kept g (trackOn g w) (step g w) u s .0 ∙ track-left g w (W .legal) d (W .word) in
+        (λ i. readable (same i) (keyArea c (there i))) ∙ stays-there
 
   module _ (u : World) (e : Word) (counted : Bool) (R : Rereads g w d (Write.Update false) u e counted) where
     abbrev s : Position

@@ -13,7 +13,7 @@ use Rattle.areas.specs.declared.{Counts.Counts}
 use Rattle.areas.specs.Areas.{countArea, readable}
 use Rattle.hunt.specs.declared.{Spot.Spot, Next.Next}
 use Rattle.hunt.specs.Hunt.{countFirst, nextRecord}
-use Rattle.pack.specs.declared.{Head.Head, Shape.Shape}
+use Rattle.pack.specs.declared.{Shape.Shape}
 use Rattle.held.specs.declared.{Selection.Selection, Position.Position, Orders.Orders}
 use Rattle.held.specs.declared.Selection.the-variants.{Nothing, On}
 use Rattle.table.specs.declared.{Licence.Licence, Bar.Bar, Aim.Aim, Names.Names, Write.Write, Act.Act, Rule.Rule}
@@ -28,7 +28,7 @@ use Rattle.command.proofs.Planned.{isSelected}
 use Rattle.command.proofs.Seen.{record-readable}
 use Rattle.claim_track.specs.Lasting.{Permitted}
 use Rattle.claim_track.proofs.Works.{permitted-plan}
-use Rattle.claim_back.specs.Back.{Work, OnHome, OnRecord, OnNothing, selected, comesTo, byMarker, takenBy}
+use Rattle.claim_back.specs.Back.{OnHome, OnRecord, OnNothing, selected, comesTo, byMarker, takenBy}
 
 -- ---- what the rows of the reads, and of the updates, have in common
 

@@ -5,7 +5,7 @@
 use Prim.Native.Nat.{ℕ, _+_, _-_, _*_, _<_, min}
 use mathlib.Core.Path.{_≡_}
 use mathlib.Core.Bool.{Bool, true, false, not}
-use mathlib.Core.List.{List, [], _∷_, _++_}
+use mathlib.Core.List.{List, [], _++_}
 use lib.ListN.{length, getD}
 use lib.Dec.{ltb, eqb}
 use Rattle.cells.specs.Cells.{pick, both, either, be16, part, padded, trackCells, marks}
@@ -84,7 +84,7 @@ pub record Sent : Type 0 where
 abbrev pub bytesFrom : List ℕ → ℕ → ℕ → List ℕ
 bytesFrom v from n = padded n (part v from n)
 
--- KL and DL of a new record, as sent
+-- KL and DL of a new record, as sent: byte 5, and bytes 6 and 7, of CC, HH, R, KL, DL
 abbrev pub klSent : List ℕ → ℕ
 klSent v = getD (padded countSent v) 5 0
 
@@ -218,6 +218,9 @@ pub record WrittenReadsBack (g : Shape) : Type 0 where
   -- "with no later write on that track": its cells are those that the write left
   pub kept : (m : ℕ) (w v : World) → Since g m w v
       → (trackAt (v .cells) (m * trackCells) ≡ trackAt (w .cells) (m * trackCells)) × (length (v .cells) ≡ length (w .cells))
+  -- .. and where the write is word j + 1 of a go of n, what that go leaves comes after it, if no later word of it writes on that track
+  pub rest : (m : ℕ) (v : World) (n j : ℕ) → guardOf g v ≡ Guarded.Passes → j < n → run g j v .held .channel .going ≡ true
+      → sparesTrack g m (n - j - 1) (step g (run g j v)) ≡ true → Since g m (step g (run g j v)) (goes g n v .left)
   -- "places, of each area that the write laid and as far as its count goes, the bytes sent, zeros for those missing"
   pub read : (w : World) (d : Word) (k : Write) (u : World) (e : Word) (c : Bool) → Rereads g w d k u e c → namesPassed g w k e ≡ false
       → Back g u e (sentAt g w d k) (askedBy e c (sentAt g w d k))
@@ -228,8 +231,8 @@ pub record WrittenReadsBack (g : Shape) : Type 0 where
       → sparesByte g (e .address + i) (n - j - 1) (step g (run g j v)) ≡ true
       → getD (goes g n v .left .storage) (e .address + i) 0 ≡ getD (askedBy e c (sentAt g w d k)) i 0
   -- "A key that was unreadable before an 05 stays so"
-  pub stays : (w : World) (d : Word) (K : KeyUnreadable g w) → Wrote g w d (Write.Update false)
-      → readable (trackAt (step g w .cells) (trackOn g w * trackCells)) (keyArea (countFirst (K .spot)) (countsThere g w)) ≡ false
+  pub stays : (w : World) (d : Word) (u : World) (K : KeyUnreadable g w) → Wrote g w d (Write.Update false) → Since g (trackOn g w) (step g w) u
+      → readable (trackAt (u .cells) (trackOn g w * trackCells)) (keyArea (countFirst (K .spot)) (countsThere g w)) ≡ false
   -- "a read that names it ends in Data Check"
   pub lost : (w : World) (d : Word) (u : World) (e : Word) (c : Bool) → KeyUnreadable g w → Rereads g w d (Write.Update false) u e c
       → namesKey (ruleOf (e .code) .names) ≡ true → KeyLost g u e

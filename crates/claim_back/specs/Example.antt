@@ -21,7 +21,8 @@ use Rattle.claim_box.specs.Figures.{word, storageWith, onePack, statusOf}
 use Rattle.claim_box.specs.Reading.{stocked, r0Key}
 use Rattle.claim_back.specs.Back.{namesKey, Rereads, namesPassed, sentAt, askedBy, KeyUnreadable}
 
--- what a start leaves of a fresh box with this track: at 256 Search ID equal, which R0 satisfies, at 272 a write of the bytes at 160, at 280 a read to 192
+-- what a start leaves of a fresh box with this track: at 256 Search ID equal with the ID at 128, which R0 satisfies, at 272 a write of the bytes at 160, at
+-- 280 a read to 192
 abbrev pub begun : List ℕ → List ℕ → List ℕ → List ℕ → World
 begun t write sent read =
     starts onePack
@@ -41,11 +42,11 @@ abbrev pub theRead : World → Word
 theRead v = wordAt (v .storage) 280
 
 -- record 1: KL 2, DL 4; its key; two bytes of its data
-abbrev pub sentNew : List ℕ
-sentNew = 0 ∷ 0 ∷ 0 ∷ 0 ∷ 1 ∷ 2 ∷ 0 ∷ 4 ∷ 0xC1 ∷ 0xC2 ∷ 5 ∷ 6 ∷ []
+abbrev pub recordSent : List ℕ
+recordSent = 0 ∷ 0 ∷ 0 ∷ 0 ∷ 1 ∷ 2 ∷ 0 ∷ 4 ∷ 0xC1 ∷ 0xC2 ∷ 5 ∷ 6 ∷ []
 
 abbrev pub new : World
-new = begun homeAndR0 (word 0x1D 160 0x60 12) sentNew (word 0x1E 192 0x00 14)
+new = begun homeAndR0 (word 0x1D 160 0x60 12) recordSent (word 0x1E 192 0x00 14)
 
 -- a gap in R0's key
 unfoldable pub keyGap : List ℕ
@@ -57,8 +58,8 @@ over = begun keyGap (word 0x05 160 0x60 2) (5 ∷ 6 ∷ []) (word 0x16 192 0x00 
 pub record Example : Type 0 where
   pub rereads : Rereads onePack (toWrite new) (theWrite new) Write.CountKeyData (toRead new) (theRead new) true
   pub names : namesPassed onePack (toWrite new) Write.CountKeyData (theRead new) ≡ false
-  pub bytes : askedBy (theRead new) true (sentAt onePack (toWrite new) (theWrite new) Write.CountKeyData) ≡ sentNew ++ (0 ∷ 0 ∷ [])
-  pub placed : part (goes onePack 3 new .left .storage) 192 14 ≡ sentNew ++ (0 ∷ 0 ∷ [])
+  pub bytes : askedBy (theRead new) true (sentAt onePack (toWrite new) (theWrite new) Write.CountKeyData) ≡ recordSent ++ (0 ∷ 0 ∷ [])
+  pub placed : part (goes onePack 3 new .left .storage) 192 14 ≡ recordSent ++ (0 ∷ 0 ∷ [])
   -- the key that cannot be read: Unit Check, and no byte moved
   pub unreadable : KeyUnreadable onePack (toWrite over)
   pub over-rereads : Rereads onePack (toWrite over) (theWrite over) (Write.Update false) (toRead over) (theRead over) true
