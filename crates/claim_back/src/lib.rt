@@ -1,1 +1,1 @@
-// No code: what is claimed of words back to back. A loop of Search ID and TIC comes to the record whose ID was sent.
+// No code: what is claimed of what was written, when it is read again through the box; and of a loop of Search ID and TIC, which comes to its record.

@@ -1,0 +1,64 @@
+-- What was written reads back: at the read's word, and through the call that runs it. Why: a go runs the words before it, then the read, then words that may
+-- not change the byte.
+use Prim.Native.Nat.{ℕ, suc, _+_, _-_, _<_}
+use mathlib.Core.Path.{_≡_, refl, sym, ap, _∙_, subst}
+use mathlib.Core.Bool.{Bool, true, false}
+use native.Mathlib.Omega.{arith}
+use lib.ListN.{getD}
+use Rattle.cells.specs.Cells.{pick}
+use Rattle.pack.specs.declared.{Shape.Shape}
+use Rattle.channel.specs.Channel.{World}
+use Rattle.chain.specs.Step.{step, run, Legal}
+use Rattle.chain.proofs.Legal.{step-legal}
+use Rattle.chain.proofs.Runs.{run-on, run-idle, run-split, run-legal}
+use Rattle.host.specs.declared.{Guarded.Guarded}
+use Rattle.host.specs.declared.Answer.the-variants.{NoChain}
+use Rattle.host.specs.Host.{hears, guardOf, guards, ran, goes}
+use Rattle.host.proofs.Laws.{passes-legal}
+use Rattle.claim_box.specs.Confined.{sparesByte, sparesTrack}
+use Rattle.claim_box.proofs.Runs.{run-confined}
+use Rattle.claim_back.specs.Back.{Since, now, words, WrittenReadsBack}
+use Rattle.claim_back.proofs.After.{track-kept}
+use Rattle.claim_back.proofs.Again.{back}
+use Rattle.claim_back.proofs.Lost.{stays, key-lost}
+
+module _ (g : Shape) (v : World) (n : ℕ) (p : guardOf g v ≡ Guarded.Passes) where
+  -- a go that passes leaves what its words leave
+  go-runs : goes g n v .left ≡ run g n v
+  unfolding goes guards ran
+  go-runs =
+      ap (λ (x : Guarded). guards x v (pick (v .held .channel .going) (ran (run g n v)) (hears NoChain v)) .left) p ∙ by (v .held .channel .going) refl
+    where
+      by : (b : Bool) → v .held .channel .going ≡ b → pick b (ran (run g n v)) (hears NoChain v) .left ≡ run g n v
+      by true e = refl
+      by false e = sym (run-idle g n v e)
+
+  module _ (j : ℕ) (h : j < n) (going : run g j v .held .channel .going ≡ true) where
+    -- word j + 1, and those after it
+    runs-on : run g n v ≡ run g (n - j - 1) (step g (run g j v))
+    runs-on =
+        let e : n ≡ j + suc (n - j - 1) = omega arith in
+        ap (λ (k : ℕ). run g k v) e ∙ run-split g j (suc (n - j - 1)) v ∙ run-on g (n - j - 1) (run g j v) going
+
+    after-legal : Legal g (step g (run g j v))
+    after-legal = step-legal g (run g j v) (run-legal g j v (passes-legal g v p))
+
+    since-rest : (m : ℕ) → sparesTrack g m (n - j - 1) (step g (run g j v)) ≡ true → Since g m (step g (run g j v)) (goes g n v .left)
+    since-rest m q = subst (Since g m (step g (run g j v))) (sym (go-runs ∙ runs-on)) (words (n - j - 1) now after-legal q)
+
+    stands : (i : ℕ) → sparesByte g i (n - j - 1) (step g (run g j v)) ≡ true
+        → getD (goes g n v .left .storage) i 0 ≡ getD (step g (run g j v) .storage) i 0
+    stands i q =
+        ap (λ (y : World). getD (y .storage) i 0) (go-runs ∙ runs-on)
+        ∙ run-confined g (n - j - 1) (step g (run g j v)) after-legal .storage i q
+
+pub written-reads-back : (g : Shape) → WrittenReadsBack g
+written-reads-back g = record {
+  kept = track-kept g;
+  rest = λ m v n j p h going q. since-rest g v n p j h going m q;
+  read = back g;
+  go = λ w d k v n j e c p h going R knows i less clear spares.
+      stands g v n p j h going (e .address + i) spares ∙ back g w d k (run g j v) e c R knows .places i less clear;
+  stays = λ w d u K W s. stays g w d K W u s;
+  lost = λ w d u e c K R names. key-lost g w d K u e c R names;
+}
