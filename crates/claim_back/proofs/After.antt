@@ -1,13 +1,11 @@
 -- With no later write on a track its cells stay. Why: an allowance and a call change no cell of a track on which none of their words writes
 -- (`claim_box:Runs.run-confined`, `claim_box:Calls.call-confined`), a start changes none.
-use Prim.Native.Nat.{ℕ, _+_, _-_, _*_, _<_, min}
-use mathlib.Core.Path.{_≡_, refl, sym, ap, _∙_}
+use Prim.Native.Nat.{ℕ, _-_, _*_}
+use mathlib.Core.Path.{_≡_, refl, ap, _∙_}
 use mathlib.Core.Bool.{Bool, true, false}
 use mathlib.Core.List.{List}
-use native.Mathlib.Omega.{arith}
-use lib.ListN.{length, getD, drop, length-take, length-drop}
-use lib.Seq.{getD-take, getD-drop, ext-getD}
-use Rattle.cells.specs.Cells.{pick, part, trackCells}
+use lib.ListN.{length}
+use Rattle.cells.specs.Cells.{pick, trackCells}
 use Rattle.pack.specs.declared.{Shape.Shape}
 use Rattle.pack.specs.Pack.{trackAt}
 use Rattle.channel.specs.Channel.{World}
@@ -18,19 +16,10 @@ use Rattle.host.specs.declared.Guarded.the-variants.{Passes, Answers}
 use Rattle.host.specs.Host.{hears, guardOf, guards, ran, goes}
 use Rattle.host.specs.declared.Answer.the-variants.{NoChain}
 use Rattle.host.proofs.Laws.{passes-legal}
+use Rattle.claim_box.proofs.Outside.{same-track}
 use Rattle.claim_box.proofs.Runs.{run-confined}
 use Rattle.claim_box.proofs.Calls.{call-confined}
 use Rattle.claim_back.specs.Back.{Since, now, words, start, go, host}
-
--- a track has the same cells where each of them is the same
-same-track : (c c′ : List ℕ) (a : ℕ) → length c′ ≡ length c → ((i : ℕ) → i < trackCells → getD c′ (a + i) 0 ≡ getD c (a + i) 0)
-    → trackAt c′ a ≡ trackAt c a
-unfolding trackAt part
-same-track c c′ a l f =
-    ext-getD 0 _ _ (simp (length-take, length-drop) (ap (λ (k : ℕ). min 4096 (k - a)) l))
-    (λ i h.
-    let k : i < 4096 = omega (arith, length-take 4096 (drop a c′)) in
-    getD-take 4096 (drop a c′) i 0 k ∙ getD-drop a c′ i 0 ∙ f i k ∙ sym (getD-take 4096 (drop a c) i 0 k ∙ getD-drop a c i 0))
 
 module _ (g : Shape) (m : ℕ) where
   -- a go leaves a pack as long as it was
@@ -50,7 +39,7 @@ module _ (g : Shape) (m : ℕ) where
   track-kept w v (words {v = u} n s L e) =
       let r = track-kept w u s in
       let l = run-sizes g n u L .cells in
-      (same-track (u .cells) (run g n u .cells) (m * trackCells) l (λ i h. run-confined g n u L .track m i h e) ∙ r .0, l ∙ r .1)
+      (same-track (u .cells) (run g n u .cells) m l (λ i h. run-confined g n u L .track m i h e) ∙ r .0, l ∙ r .1)
   track-kept w v (start {v = u} s) =
       let r = track-kept w u s in
       let e = call-confined g 0 u .start-cells in
@@ -58,5 +47,5 @@ module _ (g : Shape) (m : ℕ) where
   track-kept w v (go {v = u} n s e) =
       let r = track-kept w u s in
       let l = go-long n u in
-      (same-track (u .cells) (goes g n u .left .cells) (m * trackCells) l (λ i h. call-confined g n u .track m i h e) ∙ r .0, l ∙ r .1)
+      (same-track (u .cells) (goes g n u .left .cells) m l (λ i h. call-confined g n u .track m i h e) ∙ r .0, l ∙ r .1)
   track-kept w v (host h st s) = track-kept w _ s

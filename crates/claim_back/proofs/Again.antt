@@ -9,9 +9,8 @@ use lib.ListN.{length, getD, take, length-take}
 use lib.Seq.{getD-take}
 use borrow.Author.Tests.{not-true}
 use Rattle.cells.specs.Cells.{pick, both, either, trackCells, marks}
-use Rattle.cells.proofs.Laws.{length-overlay}
-use Rattle.words.specs.declared.{Word.Word, Tested.Tested, Status.Status}
-use Rattle.words.specs.Words.{statusAt, statusBytes, stored}
+use Rattle.words.specs.declared.{Word.Word, Tested.Tested}
+use Rattle.words.specs.Words.{stored}
 use Rattle.areas.specs.Areas.{homeArea}
 use Rattle.hunt.specs.Hunt.{countFirst}
 use Rattle.pack.specs.declared.{Shape.Shape}
@@ -25,7 +24,8 @@ use Rattle.channel.specs.Channel.{fetched, placed, goesOn, statusAfter, withSta
 use Rattle.chain.specs.Step.{under, trackUnder, tracksOf, turnOf, settled, obeyed, stepBy, step}
 use Rattle.claim_track.specs.Lasting.{ReadsAs}
 use Rattle.claim_box.specs.Confined.{inStatus}
-use Rattle.claim_box.proofs.Outside.{overlay-kept, overlay-inside}
+use Rattle.claim_box.proofs.Outside.{overlay-inside}
+use Rattle.claim_box.proofs.NextWord.{stored-kept, placed-long}
 use Rattle.claim_back.specs.Back.{Work, OnHome, OnRecord, OnNothing, takenBy, Sent, namesKey, passesKey, trackOn, countsThere, Rereads, namesPassed, sentAt, askedBy, clear, Back}
 use Rattle.claim_back.proofs.Plans.{NamesCount, record-plan, record-named, home-plan, home-named}
 use Rattle.claim_back.proofs.Given.{Holds, Gave, record-gave, home-gave}
@@ -83,16 +83,7 @@ module _ (g : Shape) (w : World) (d : Word) (k : Write) (u : World) (e : Word) (
 
 -- ---- the channel puts it there
 
--- the status word goes over its own bytes only
-status-spares : (st : List ℕ) (x : Status) (i : ℕ) → 80 ≤ length st → inStatus i ≡ false → getD (stored st x) i 0 ≡ getD st i 0
-unfolding stored
-status-spares st x i h e = overlay-kept st statusAt (statusBytes x) i (omega arith) e
-
 module _ (st : List ℕ) (e : Word) (v : List ℕ) (room : e .address + e .count ≤ length st) where
-  placed-long : length (placed st e v) ≡ length st
-  unfolding placed
-  placed-long = length-overlay st (e .address) (take (e .count) v) (omega (arith, length-take (e .count) v, room))
-
   placed-at : (i : ℕ) → i < min (e .count) (length v) → getD (placed st e v) (e .address + i) 0 ≡ getD v i 0
   unfolding placed
   placed-at i h =
@@ -124,7 +115,7 @@ module _ (g : Shape) (w : World) (d : Word) (k : Write) (u : World) (e : Word) (
           → getD (pick b st′ (stored st′ (statusAfter (u .held .channel) e (reportOf x)))) (e .address + i) 0 ≡ getD st′ (e .address + i) 0
       go true q = refl
       go false q =
-          status-spares st′ _ (e .address + i) (omega (arith, placed-long (u .storage) e (given (x .moves)) room, R .legal .room)) (not-true _ q)
+          stored-kept st′ _ (e .address + i) (omega (arith, placed-long (u .storage) e (given (x .moves)) room, R .legal .room)) (not-true _ q)
 
   pub back : Back g u e (sentAt g w d k) (askedBy e counted (sentAt g w d k))
   back =

@@ -1,33 +1,18 @@
 -- The example: each side computes. That storage holds bytes is one computed test.
-use Prim.Native.Nat.{ℕ, zero, suc, _<_}
-use mathlib.Core.Path.{_≡_, refl}
-use mathlib.Core.Bool.{Bool, true, false}
-use mathlib.Core.List.{List, [], _∷_}
-use native.Mathlib.Omega.{arith}
-use lib.ListN.{getD}
-use lib.Dec.{ltb, lit<}
-use borrow.Author.Tests.{ltb-true}
-use Rattle.cells.specs.Cells.{both}
-use Rattle.cells.proofs.Tests.{first-of, second-of}
+use Prim.Native.Nat.{_<_}
+use mathlib.Core.Path.{refl}
+use mathlib.Core.Bool.{false}
+use lib.Dec.{lit<}
 use Rattle.hunt.specs.declared.Spot.the-variants.{R0}
 use Rattle.chain.specs.Step.{Legal}
 use Rattle.host.proofs.Laws.{passes-legal}
 use Rattle.table.specs.declared.{Write.Write}
+use Rattle.claim_box.specs.Boxes.{allUnder}
 use Rattle.claim_box.specs.Figures.{onePack}
 use Rattle.claim_box.specs.Reading.{stocked}
 use Rattle.claim_box.proofs.Opened.{box}
 use Rattle.claim_back.specs.Back.{selected, behind, leftBy, comesTo, byMarker, takenBy, newSent, updateSent, sentBy, asked, namesKey, passesKey, now, countsOn, Wrote}
 use Rattle.claim_back.specs.Example.{toWrite, toRead, theWrite, new, keyGap, over, Example}
-
-unfoldable allUnder : List ℕ → Bool
-allUnder [] = true
-allUnder (b ∷ l) = both (ltb b 256) (allUnder l)
-
-under-256 : (l : List ℕ) → allUnder l ≡ true → (i : ℕ) → getD l i 0 < 256
-unfolding allUnder
-under-256 [] e i = omega arith
-under-256 (b ∷ l) e zero = ltb-true b 256 (first-of (ltb b 256) _ e)
-under-256 (b ∷ l) e (suc i) = under-256 l (second-of (ltb b 256) _ e) i
 
 -- ---- 1D, then 1E
 
@@ -41,7 +26,7 @@ new-read = passes-legal onePack (toRead new) refl
 
 new-wrote : Wrote onePack (toWrite new) (theWrite new) Write.CountKeyData
 unfolding box allUnder
-new-wrote = record { legal = new-write; bytes = under-256 (toWrite new .storage) refl; word = refl; act = refl; done = refl }
+new-wrote = record { legal = new-write; bytes = refl; word = refl; act = refl; done = refl }
 
 -- ---- 05, then 16
 
@@ -55,7 +40,7 @@ over-read = passes-legal onePack (toRead over) refl
 
 over-wrote : Wrote onePack (toWrite over) (theWrite over) (Write.Update false)
 unfolding box stocked keyGap allUnder
-over-wrote = record { legal = over-write; bytes = under-256 (toWrite over .storage) refl; word = refl; act = refl; done = refl }
+over-wrote = record { legal = over-write; bytes = refl; word = refl; act = refl; done = refl }
 
 -- ---- both
 

@@ -9,8 +9,8 @@ use native.Mathlib.Omega.{arith}
 use lib.ListN.{length}
 use lib.Dec.{ltb}
 use borrow.Author.Tests.{lt-ltb}
-use Rattle.cells.specs.Cells.{both, either, part, padded, trackCells, overlay}
-use Rattle.cells.proofs.Laws.{length-padded, part-overlay}
+use Rattle.cells.specs.Cells.{both, either, part, padded, trackCells}
+use Rattle.cells.proofs.Laws.{length-padded}
 use Rattle.cells.proofs.Marks.{both-never}
 use Rattle.cells.proofs.Numbers.{Bytes, part-bytes}
 use Rattle.words.specs.declared.{Word.Word, Tested.Tested}
@@ -21,7 +21,7 @@ use Rattle.areas.proofs.Laws.{some-key}
 use Rattle.hunt.specs.declared.{Spot.Spot}
 use Rattle.hunt.specs.Hunt.{countFirst}
 use Rattle.pack.specs.declared.{Shape.Shape}
-use Rattle.pack.specs.Pack.{startOf, trackAt, withTrack}
+use Rattle.pack.specs.Pack.{startOf, trackAt}
 use Rattle.held.specs.declared.{Selection.Selection, Orders.Orders}
 use Rattle.held.specs.declared.Selection.the-variants.{On}
 use Rattle.format.specs.Format.{newCounts}
@@ -29,11 +29,10 @@ use Rattle.table.specs.declared.{Write.Write, Act.Act}
 use Rattle.table.specs.Table.{ruleOf}
 use Rattle.turn.specs.Turn.{Turn, isCheck, lay}
 use Rattle.command.specs.Command.{licensed, keySent}
-use Rattle.command.proofs.Pieces.{length-laid}
 use Rattle.channel.specs.Channel.{fetched, World}
-use Rattle.chain.specs.Step.{under, trackUnder, next, tracksOf, turnOf, settled, obeyed, stepBy, step, Legal}
+use Rattle.chain.specs.Step.{under, trackUnder, next, tracksOf, turnOf, stepBy, step, Legal}
 use Rattle.chain.proofs.Fits.{selected-on, ordered}
-use Rattle.chain.proofs.Legal.{inside, track-whole, put-back, turn-left}
+use Rattle.chain.proofs.Legal.{track-whole}
 use Rattle.claim_track.specs.Damage.{In}
 use Rattle.claim_track.specs.Lasting.{ReadsAs, NewBack, UpdateBack, ReadsBack, Took, Permitted, Leaves, unchanged, written}
 use Rattle.claim_track.proofs.Same.{same-cells, same-readable, same-counts}
@@ -41,6 +40,8 @@ use Rattle.claim_track.proofs.Commands.{writes-leave}
 use Rattle.claim_box.specs.Confined.{inArea, inKey, inData, reaches, recordTaken, reachesFrom, actReaches, bars, mayChange, trackAfter, CommandConfined}
 use Rattle.claim_box.proofs.Outside.{out-test}
 use Rattle.claim_box.proofs.Commands.{command-confined}
+use Rattle.claim_box.proofs.NextWord as Next
+use Rattle.claim_sound.proofs.Bytes.{under-bytes}
 use Rattle.claim_back.specs.Back.{Work, OnHome, OnRecord, OnNothing, selected, behind, leftBy, Sent, newSent, updateSent, sentBy, passesKey, countsOn, trackOn, Wrote}
 use Rattle.claim_back.proofs.Counts.{new-moved}
 use Rattle.claim_back.proofs.Plans.{update-read}
@@ -48,23 +49,14 @@ use Rattle.claim_back.proofs.Given.{Holds}
 
 -- ---- the track left
 
--- a track put into the pack is found there
-found : (cells t : List ℕ) (a : ℕ) → length t ≡ trackCells → a + trackCells ≤ length cells → trackAt (withTrack cells a t) a ≡ t
-unfolding trackAt withTrack
-found cells t a l h = ap (part (overlay cells a t) a) (sym l) ∙ part-overlay cells a t (omega (arith, l))
-
 module _ (g : Shape) (w : World) (L : Legal g w) (d : Word) (word : next w ≡ Tested.Obey d) where
   pub area-inside : d .address + d .count ≤ length (w .storage)
   unfolding next
   area-inside = subst (TestedIn (w .storage)) word (tested-in (w .storage) (w .held .channel .next) (w .held .channel .«after_tic»))
 
   pub track-left : trackAt (step g w .cells) (trackOn g w * trackCells) ≡ lay (turnOf g w d .lays) (trackUnder g w)
-  unfolding step stepBy obeyed settled under startOf
-  track-left =
-      ap (λ (x : Tested). trackAt (stepBy g w x .cells) (trackOn g w * trackCells)) word
-      ∙ ap (λ (c : List ℕ). trackAt c (trackOn g w * trackCells)) (put-back g w L d (turnOf g w d) (turn-left g w L d) (record { area = area-inside }))
-      ∙ found (w .cells) (lay (turnOf g w d .lays) (trackUnder g w)) (trackOn g w * trackCells)
-      (length-laid (w .held .position .head) (turnOf g w d .lays) (trackUnder g w) (turn-left g w L d .pieces) (track-whole g w L .long)) (inside g w L)
+  unfolding step stepBy under startOf
+  track-left = ap (λ (x : Tested). trackAt (stepBy g w x .cells) (trackOn g w * trackCells)) word ∙ Next.track-left g w L d area-inside
 
 -- ---- a new record
 
@@ -179,7 +171,7 @@ module _ (g : Shape) (w : World) (d : Word) (k : Write) (W : Wrote g w d k) wher
 
   sent-bytes : Bytes v
   unfolding fetched
-  sent-bytes = part-bytes (w .storage) (d .address) (d .count) (W .bytes)
+  sent-bytes = part-bytes (w .storage) (d .address) (d .count) (under-bytes (w .storage) (W .bytes))
 
   leaves : Leaves (ruleOf (d .code)) k o v t x
   unfolding turnOf trackUnder under tracksOf

@@ -25,6 +25,7 @@ use Rattle.command.specs.declared.Got.the-variants.{Sees, Fails}
 use Rattle.command.specs.declared.Plan.the-variants.{Refuses, Works}
 use Rattle.command.specs.Command.{Marks, marksOf, licensed, task, homePlace, mostTally, tallies, onRecord, onNext, onSelected, toNext, toServed, aimed, unlessBarred, planOf, areasAt, gets, sight, actTurn, jobOf, hasRead, readyBy, planReads, readyTurn, ruleTurn, command}
 use Rattle.command.proofs.Planned.{isSelected}
+use Rattle.claim_track.proofs.Works.{namesHome, namesCount}
 use Rattle.command.proofs.Seen.{record-readable}
 use Rattle.claim_track.specs.Lasting.{Permitted}
 use Rattle.claim_track.proofs.Works.{permitted-plan}
@@ -44,16 +45,6 @@ unfoldable isFree : Bar → Bool
 isFree Bar.Nothing = true
 isFree (Bar.Seeks k) = false
 isFree (Bar.Writes k) = false
-
-unfoldable namesHome : Names → Bool
-namesHome Names.Nothing = false
-namesHome Names.HomeAddress = true
-namesHome (Names.Count key body) = false
-
-unfoldable namesCount : Names → Bool
-namesCount Names.Nothing = false
-namesCount Names.HomeAddress = false
-namesCount (Names.Count key body) = true
 
 -- a read that takes a record names its count; one at the home address names that
 unfoldable fitsAim : Aim → Names → Bool

@@ -1,7 +1,7 @@
--- What was written reads back through the box: "After a write that ended without Unit Check, and with no later write on that track, a read that takes that
--- record (selected or come to by its marker; 16 for R0, 1A for the home address) and names only areas that the write laid or read, its area in storage clear of
--- command words and the status word, places, of each area that the write laid and as far as its count goes, the bytes sent, zeros for those missing; DL 0 as
--- document 01 says. (A key that was unreadable before an 05 stays so: a read that names it ends in Data Check.)"
+-- What was written reads back through the box (REFERENCE 9.6): "After a write that ended without Unit Check, and with no later write on that track, a read
+-- that takes that record (selected or come to by its marker; 16 for R0, 1A for the home address) and names only areas that the write laid or read, its area in
+-- storage clear of command words and the status word, places, of each area that the write laid and as far as its count goes, the bytes sent, zeros for those
+-- missing; DL 0 as document 01 says. (A key that was unreadable before an 05 stays so: a read that names it ends in Data Check.)"
 use Prim.Native.Nat.{ℕ, _+_, _-_, _*_, _<_, min}
 use mathlib.Core.Path.{_≡_}
 use mathlib.Core.Bool.{Bool, true, false, not}
@@ -28,7 +28,9 @@ use Rattle.chain.specs.Step.{trackUnder, next, turnOf, step, run, Legal}
 use Rattle.host.specs.declared.{Guarded.Guarded}
 use Rattle.host.specs.Host.{guardOf, ifPasses, starts, goes}
 use Rattle.sound.specs.Sound.{endAt}
+use Rattle.claim_box.specs.Boxes.{allUnder}
 use Rattle.claim_box.specs.Confined.{inStatus, sparesByte, sparesTrack}
+use Rattle.claim_sound.specs.Soundness.{bytes}
 
 -- ---- "that record": what a write leaves and a read takes, the home address or a record
 
@@ -161,7 +163,7 @@ countsThere g w = countsOn (trackUnder g w) (w .held .orders .selection)
 -- the next word d of w is the write k, and ends without Unit Check; storage holds bytes
 pub record Wrote (g : Shape) (w : World) (d : Word) (k : Write) : Type 0 where
   pub legal : Legal g w
-  pub bytes : (i : ℕ) → getD (w .storage) i 0 < 256
+  pub bytes : allUnder bytes (w .storage) ≡ true
   pub word : next w ≡ Tested.Obey d
   pub act : ruleOf (d .code) .act ≡ Act.Write k
   pub done : isCheck (turnOf g w d .ending) ≡ false

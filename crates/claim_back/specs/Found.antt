@@ -1,5 +1,5 @@
 -- On a soundly written track whose IDs, R0's too, differ, a loop of 31 over five bytes and TIC from any place, with index tally 0 and allowance enough,
--- comes to the record whose ID was sent. Document 01, "Where the head stands", "Commands" and "Channel words".
+-- comes to the record whose ID was sent (REFERENCE 9.6). Document 01, "Where the head stands", "Commands" and "Channel words".
 use Prim.Native.Nat.{ℕ, _+_, _-_, _*_, _<_, _≤_}
 use mathlib.Core.Path.{_≡_}
 use mathlib.Core.Bool.{Bool, true, false}

@@ -23,13 +23,18 @@ use Rattle.channel.specs.Channel.{fetched, placed, bytesMoved, goesOn, statusAf
 use Rattle.chain.specs.Step.{under, trackUnder, next, tracksOf, turnOf, settled, obeyed, stepBy, step, Legal}
 use Rattle.chain.proofs.Legal.{inside, track-whole, turn-left, put-back, step-sizes}
 use Rattle.claim_box.specs.Confined.{among, mayChange, mayStore, trackAfter, CommandConfined, wordChanges, changes, inStatus, wordStores, stores, StepConfined}
-use Rattle.claim_box.proofs.Outside.{pick-by, neither, out-of, out-test, in-between, overlay-kept, overlay-inside}
+use Rattle.claim_box.proofs.Outside.{pick-by, neither, out-of, out-test, in-between, overlay-kept, overlay-inside, put-found}
 use Rattle.claim_box.proofs.Commands.{command-confined}
 
 -- the status word
-stored-kept : (s : List ℕ) (x : Status) (i : ℕ) → statusAt ≤ length s → inStatus i ≡ false → getD (stored s x) i 0 ≡ getD s i 0
+pub stored-kept : (s : List ℕ) (x : Status) (i : ℕ) → statusAt ≤ length s → inStatus i ≡ false → getD (stored s x) i 0 ≡ getD s i 0
 unfolding stored
 stored-kept s x i h e = overlay-kept s statusAt (statusBytes x) i h e
+
+-- bytes placed
+pub placed-long : (s : List ℕ) (d : Word) (v : List ℕ) → d .address + d .count ≤ length s → length (placed s d v) ≡ length s
+unfolding placed
+placed-long s d v r = length-overlay s (d .address) _ (omega (arith, length-take (d .count) v, r))
 
 -- off the track under the head
 pub none-elsewhere : (g : Shape) (w : World) (x : Tested) (i : ℕ) → among (under g (w .held)) trackCells i ≡ false → wordChanges g w i x ≡ false
@@ -77,6 +82,12 @@ module _ (g : Shape) (w : World) (L : Legal g w) where
     unfolding obeyed settled
     back = put-back g w L d x (turn-left g w L d) (record { area = r })
 
+    -- the track under the head, found again where it was put
+    pub track-left : trackAt (obeyed g w d .cells) start ≡ lay (x .lays) (trackUnder g w)
+    unfolding trackUnder tracksOf under turnOf trackAfter
+    track-left =
+        ap (λ (c : List ℕ). trackAt c start) back ∙ put-found (w .cells) _ start (confined .long ∙ track-whole g w L .long) (inside g w L)
+
     obeyed-cells : (i : ℕ) → wordChanges g w i (Obey d) ≡ false → getD (obeyed g w d .cells) i 0 ≡ getD (w .cells) i 0
     unfolding wordChanges trackUnder tracksOf under turnOf trackAfter
     obeyed-cells i e =
@@ -90,8 +101,7 @@ module _ (g : Shape) (w : World) (L : Legal g w) where
     st′ = placed (w .storage) d (given (x .moves))
 
     put-long : length st′ ≡ length (w .storage)
-    unfolding placed
-    put-long = length-overlay (w .storage) (d .address) _ (omega (arith, length-take (d .count) (given (x .moves)), r))
+    put-long = placed-long (w .storage) d (given (x .moves)) r
 
     obeyed-storage : (i : ℕ) → wordStores g w i (Obey d) ≡ false → getD (obeyed g w d .storage) i 0 ≡ getD (w .storage) i 0
     unfolding wordStores obeyed settled storageAfter withStatus turnOf

@@ -13,7 +13,7 @@ use borrow.Author.Tests.{ltb-true, ltb-false, leb-true, le-leb, lt-leb, le-ltb}
 use Rattle.cells.specs.Cells.{pick, both, either, part, overlay, trackCells}
 use Rattle.cells.proofs.Laws.{getD-part, part-overlay, overlay-before, overlay-behind}
 use Rattle.cells.proofs.Tests.{first-of, second-of}
-use Rattle.pack.specs.Pack.{trackAt}
+use Rattle.pack.specs.Pack.{trackAt, withTrack}
 use Rattle.claim_box.specs.Confined.{among}
 use Rattle.claim_box.specs.Demand3.{track}
 
@@ -56,15 +56,20 @@ module _ (l : List ℕ) (at : ℕ) (v : List ℕ) where
   pub overlay-inside : (j : ℕ) → at + length v ≤ length l → j < length v → getD (overlay l at v) (at + j) 0 ≡ getD v j 0
   overlay-inside j h k = sym (getD-part (overlay l at v) at (length v) j k) ∙ ap (λ (x : List ℕ). getD x j 0) (part-overlay l at v h)
 
--- ---- another track
+-- ---- tracks of a pack
 
--- its cells lie before or behind
+-- the cells of another track lie before or behind
 pub apart : (m k i : ℕ) → (m ≡ k → ⊥) → i < trackCells → (m * trackCells + i < k * trackCells) ⊎ (k * trackCells + trackCells ≤ m * trackCells + i)
 apart m k i d h = go (decLt m k)
   where
     go : Dec (m < k) → (m * 4096 + i < k * 4096) ⊎ (k * 4096 + 4096 ≤ m * 4096 + i)
     go (yes q) = inl (omega arith)
     go (no q) = inr (omega arith)
+
+-- a track that was put into the pack is found there
+pub put-found : (cells t : List ℕ) (a : ℕ) → length t ≡ trackCells → a + trackCells ≤ length cells → trackAt (withTrack cells a t) a ≡ t
+unfolding trackAt withTrack
+put-found cells t a l h = ap (part (overlay cells a t) a) (sym l) ∙ part-overlay cells a t (omega (arith, l))
 
 -- the same cells are the same track
 pub same-track : (c c′ : List ℕ) (m : ℕ) → length c′ ≡ length c → ((i : ℕ) → i < trackCells → getD c′ (m * trackCells + i) 0 ≡ getD c (m * trackCells + i) 0)

@@ -6,11 +6,9 @@ use mathlib.Core.Path.{_≡_, refl, sym, ap, _∙_, subst}
 use mathlib.Core.Bool.{Bool, true, false, not, false≢true, true≢false}
 use mathlib.Core.List.{List, [], _∷_}
 use native.Mathlib.Omega.{arith}
-use lib.ListN.{length}
 use lib.Dec.{eqb}
 use borrow.Author.Tests.{eqb-true, eqb-false, not-true}
-use Rattle.cells.specs.Cells.{pick, both, part, overlay, trackCells, marks}
-use Rattle.cells.proofs.Laws.{part-overlay}
+use Rattle.cells.specs.Cells.{pick, both, trackCells, marks}
 use Rattle.cells.proofs.Numbers.{Bytes, part-bytes}
 use Rattle.cells.proofs.Marks.{both-never}
 use Rattle.cells.proofs.Tests.{first-of, second-of, pick-all}
@@ -20,7 +18,7 @@ use Rattle.words.specs.declared.Tested.the-variants.{Obey, Jump, Bad}
 use Rattle.words.specs.Words.{AreaFits}
 use Rattle.words.proofs.Obeys.{TestedIn, tested-in}
 use Rattle.pack.specs.declared.{Shape.Shape}
-use Rattle.pack.specs.Pack.{trackNo, startOf, trackAt, withTrack}
+use Rattle.pack.specs.Pack.{trackNo, startOf}
 use Rattle.held.specs.declared.{Orders.Orders}
 use Rattle.table.specs.declared.{Write.Write, Act.Act, Rule.Rule}
 use Rattle.table.specs.Table.{ruleOf, isWrite}
@@ -29,9 +27,9 @@ use Rattle.turn.specs.Turn.{Piece, Turn, isCheck, lay}
 use Rattle.command.specs.Command.{SelectedOn}
 use Rattle.command.proofs.Turns.{check-lays, only-writes-lay}
 use Rattle.channel.specs.Channel.{fetched, World, stops}
-use Rattle.chain.specs.Step.{under, trackUnder, next, tracksOf, turnOf, settled, obeyed, stepBy, step, run, Legal}
+use Rattle.chain.specs.Step.{under, trackUnder, next, tracksOf, turnOf, obeyed, stepBy, step, run, Legal}
 use Rattle.chain.proofs.Fits.{selected-on, ordered}
-use Rattle.chain.proofs.Legal.{inside, track-whole, turn-left, put-back, step-legal}
+use Rattle.chain.proofs.Legal.{track-whole, step-legal}
 use Rattle.chain.proofs.Runs.{run-idle}
 use Rattle.host.specs.declared.{Answer.Answer, Guarded.Guarded}
 use Rattle.host.specs.declared.Guarded.the-variants.{Passes, Answers}
@@ -40,9 +38,10 @@ use Rattle.host.proofs.Laws.{passes-legal}
 use Rattle.sound.specs.Sound.{Sound}
 use Rattle.claim_track.specs.Lasting.{Lasts, Leaves, unchanged, written}
 use Rattle.claim_track.proofs.Commands.{writes-leave, writes-sound}
-use Rattle.claim_box.specs.Confined.{spares, trackAfter}
+use Rattle.claim_box.specs.Confined.{spares}
 use Rattle.claim_box.specs.Demand3.{track, HostCall, start, go, hear, left}
 use Rattle.claim_box.proofs.Outside.{apart, same-track}
+use Rattle.claim_box.proofs.NextWord.{track-left}
 use Rattle.claim_box.proofs.Confined.{all-confined}
 use Rattle.claim_sound.specs.Soundness.{InBytes, writesHome, writesR0, isThe, testedDone, done, doneOn, knownNext, knownRun, knownGo, knownCall, knownCalls, Known, homeKept, homesKept, SoundnessLasts}
 use Rattle.claim_sound.proofs.Bytes.{under-bytes}
@@ -132,20 +131,9 @@ module _ (g : Shape) where
       act-sound (Act.Write (Write.Update key)) e c f y q S = still-sound (Write.Update key) e (λ z. let n : _≡_ {A = ℕ} 0 1 = cc in omega arith) (S q)
 
       -- where it lies in the pack
-      full : length (lay (x .lays) t) ≡ trackCells
-      unfolding turnOf trackUnder under tracksOf trackAfter
-      full =
-          let T = track-whole g w L in
-          all-confined g .command (tracksOf g (w .cells) (w .held .position .cylinder)) (w .held .position) (w .held .orders) (d .code) (fetched (w .storage) d) T .long
-          ∙ T .long
-
-      track-left : AreaFits (w .storage) d → track (obeyed g w d .cells) here ≡ lay (x .lays) t
-      unfolding obeyed settled under startOf trackAt withTrack
-      track-left r =
-          let u = lay (x .lays) t in
-          let at = under g (w .held) in
-          ap (λ (c : List ℕ). part c at trackCells) (put-back g w L d x (turn-left g w L d) r) ∙ ap (part (overlay (w .cells) at u) at) (sym full)
-          ∙ part-overlay (w .cells) at u (omega (arith, full, inside g w L))
+      put-there : AreaFits (w .storage) d → track (obeyed g w d .cells) here ≡ lay (x .lays) t
+      unfolding under startOf
+      put-there r = track-left g w L d (r .area)
 
     -- ---- the next word
 
@@ -156,7 +144,7 @@ module _ (g : Shape) where
       takes-sound : (z : Tested) → TestedIn (w .storage) z → knowsBy z ≡ true → Sound (track (stepBy g w z .cells) here)
       unfolding stepBy stops testedDone trackUnder under startOf
       takes-sound (Obey d) r q =
-          subst Sound (sym (track-left d (record { area = r }))) (act-sound d (ruleOf (d .code) .act) refl (isCheck (turnOf g w d .ending)) refl y q S)
+          subst Sound (sym (put-there d (record { area = r }))) (act-sound d (ruleOf (d .code) .act) refl (isCheck (turnOf g w d .ending)) refl y q S)
       takes-sound (Jump a) r q = S q
       takes-sound (Bad cause) r q = S q
 

@@ -30,12 +30,12 @@ use Rattle.claim_track.specs.Lasting.{Permitted}
 
 -- ---- what the table's rows of the writes have in common
 
-unfoldable namesHome : Names → Bool
+unfoldable pub namesHome : Names → Bool
 namesHome Names.Nothing = false
 namesHome Names.HomeAddress = true
 namesHome (Names.Count key body) = false
 
-unfoldable namesCount : Names → Bool
+unfoldable pub namesCount : Names → Bool
 namesCount Names.Nothing = false
 namesCount Names.HomeAddress = false
 namesCount (Names.Count key body) = true
