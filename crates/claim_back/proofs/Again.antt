@@ -23,10 +23,10 @@ use Rattle.command.specs.Command.{marksOf}
 use Rattle.channel.specs.Channel.{fetched, placed, goesOn, statusAfter, withStatus, storageAfter, World}
 use Rattle.chain.specs.Step.{under, trackUnder, tracksOf, turnOf, settled, obeyed, stepBy, step}
 use Rattle.claim_track.specs.Lasting.{ReadsAs}
-use Rattle.claim_box.specs.Confined.{inStatus}
+use Rattle.claim_box.specs.Confined.{inStatus, trackOn}
 use Rattle.claim_box.proofs.Outside.{overlay-inside}
 use Rattle.claim_box.proofs.NextWord.{stored-kept, placed-long}
-use Rattle.claim_back.specs.Back.{Work, OnHome, OnRecord, OnNothing, takenBy, Sent, namesKey, passesKey, trackOn, countsThere, Rereads, namesPassed, sentAt, askedBy, clear, Back}
+use Rattle.claim_back.specs.Back.{Work, OnHome, OnRecord, OnNothing, takenBy, Sent, namesKey, passesKey, countsThere, Rereads, namesPassed, sentAt, askedBy, clear, Back}
 use Rattle.claim_back.proofs.Plans.{NamesCount, record-plan, record-named, home-plan, home-named}
 use Rattle.claim_back.proofs.Given.{Holds, Gave, record-gave, home-gave}
 use Rattle.claim_back.proofs.Left.{area-inside, track-left, LeftIn, left-in}

@@ -15,8 +15,9 @@ use Rattle.host.specs.declared.{Guarded.Guarded}
 use Rattle.host.specs.declared.Answer.the-variants.{NoChain}
 use Rattle.host.specs.Host.{hears, guardOf, guards, ran, goes}
 use Rattle.host.proofs.Laws.{passes-legal}
-use Rattle.claim_box.specs.Confined.{sparesByte, sparesTrack}
+use Rattle.claim_box.specs.Confined.{sparesByte}
 use Rattle.claim_box.proofs.Runs.{run-confined}
+use Rattle.claim_sound.specs.Soundness.{sparesDone}
 use Rattle.claim_back.specs.Back.{Since, now, words, WrittenReadsBack}
 use Rattle.claim_back.proofs.After.{track-kept}
 use Rattle.claim_back.proofs.Again.{back}
@@ -43,7 +44,7 @@ module _ (g : Shape) (v : World) (n : ℕ) (p : guardOf g v ≡ Guarded.Passes) 
     after-legal : Legal g (step g (run g j v))
     after-legal = step-legal g (run g j v) (run-legal g j v (passes-legal g v p))
 
-    since-rest : (m : ℕ) → sparesTrack g m (n - j - 1) (step g (run g j v)) ≡ true → Since g m (step g (run g j v)) (goes g n v .left)
+    since-rest : (m : ℕ) → sparesDone g m (n - j - 1) (step g (run g j v)) ≡ true → Since g m (step g (run g j v)) (goes g n v .left)
     since-rest m q = subst (Since g m (step g (run g j v))) (sym (go-runs ∙ runs-on)) (words (n - j - 1) now after-legal q)
 
     stands : (i : ℕ) → sparesByte g i (n - j - 1) (step g (run g j v)) ≡ true

@@ -26,7 +26,7 @@ new-read = passes-legal onePack (toRead new) refl
 
 new-wrote : Wrote onePack (toWrite new) (theWrite new) Write.CountKeyData
 unfolding box allUnder
-new-wrote = record { legal = new-write; bytes = refl; word = refl; act = refl; done = refl }
+new-wrote = record { legal = new-write; lent = refl; word = refl; act = refl; done = refl }
 
 -- ---- 05, then 16
 
@@ -40,7 +40,7 @@ over-read = passes-legal onePack (toRead over) refl
 
 over-wrote : Wrote onePack (toWrite over) (theWrite over) (Write.Update false)
 unfolding box stocked keyGap allUnder
-over-wrote = record { legal = over-write; bytes = refl; word = refl; act = refl; done = refl }
+over-wrote = record { legal = over-write; lent = refl; word = refl; act = refl; done = refl }
 
 -- ---- both
 

@@ -78,12 +78,14 @@ under-is = refl
 pub met : Seeks onePack chain 128 0x40 (Marker 75)
 unfolding box stocked idAt
 met = record {
-  legal = record { whole = record { cylinders = lit≤ tt; heads = lit≤ tt; count = refl }; room = lit≤ tt; held = refl };
-  going = refl;
-  tally = refl;
-  loop = record { search = search; chained = refl; back = refl };
-  sound = subst Sound (sym under-is) (reading .sound);
-  differ = subst IdsDiffer (sym under-is) differ;
+  loops = record {
+    legal = record { whole = record { cylinders = lit≤ tt; heads = lit≤ tt; count = refl }; room = lit≤ tt; held = refl };
+    going = refl;
+    tally = refl;
+    loop = record { search = search; chained = refl; back = refl };
+    sound = subst Sound (sym under-is) (reading .sound);
+    differ = subst IdsDiffer (sym under-is) differ;
+  };
   there = refl;
   sent = refl;
 }

@@ -6,7 +6,7 @@ use mathlib.Core.Bool.{Bool, true, false, not, false≢true}
 use mathlib.Core.List.{List, []}
 use mathlib.Core.Logic.{inl}
 use native.Mathlib.Omega.{arith}
-use lib.ListN.{length}
+use lib.ListN.{length, getD}
 use lib.Dec.{ltb}
 use borrow.Author.Tests.{lt-ltb}
 use Rattle.cells.specs.Cells.{both, either, part, padded, trackCells}
@@ -37,12 +37,12 @@ use Rattle.claim_track.specs.Damage.{In}
 use Rattle.claim_track.specs.Lasting.{ReadsAs, NewBack, UpdateBack, ReadsBack, Took, Permitted, Leaves, unchanged, written}
 use Rattle.claim_track.proofs.Same.{same-cells, same-readable, same-counts}
 use Rattle.claim_track.proofs.Commands.{writes-leave}
-use Rattle.claim_box.specs.Confined.{inArea, inKey, inData, reaches, recordTaken, reachesFrom, actReaches, bars, mayChange, trackAfter, CommandConfined}
+use Rattle.claim_box.specs.Confined.{inArea, inKey, inData, reaches, recordTaken, reachesFrom, actReaches, bars, mayChange, trackAfter, CommandConfined, trackOn}
 use Rattle.claim_box.proofs.Outside.{out-test}
 use Rattle.claim_box.proofs.Commands.{command-confined}
 use Rattle.claim_box.proofs.NextWord as Next
 use Rattle.claim_sound.proofs.Bytes.{under-bytes}
-use Rattle.claim_back.specs.Back.{Work, OnHome, OnRecord, OnNothing, selected, behind, leftBy, Sent, newSent, updateSent, sentBy, passesKey, countsOn, trackOn, Wrote}
+use Rattle.claim_back.specs.Back.{Work, OnHome, OnRecord, OnNothing, selected, behind, leftBy, Sent, newSent, updateSent, sentBy, passesKey, countsOn, Wrote}
 use Rattle.claim_back.proofs.Counts.{new-moved}
 use Rattle.claim_back.proofs.Plans.{update-read}
 use Rattle.claim_back.proofs.Given.{Holds}
@@ -119,7 +119,7 @@ module _ (key : Bool) (v t t′ : List ℕ) (c : ℕ) (U : UpdateBack key v t t�
   }
 
 -- it changes no cell before its areas, nor a key that it passes over
-before-both : (key : Bool) (c : ℕ) (n : Counts) (i : ℕ) → i < c + 11 → reaches (Write.Update key) c n i ≡ false
+pub before-both : (key : Bool) (c : ℕ) (n : Counts) (i : ℕ) → i < c + 11 → reaches (Write.Update key) c n i ≡ false
 unfolding reaches inKey inData inArea keyArea dataArea
 before-both key c n i h =
     let k = out-test (c + 11) (n .kl + 2) i (inl h) in
@@ -171,9 +171,9 @@ module _ (g : Shape) (w : World) (d : Word) (k : Write) (W : Wrote g w d k) wher
 
   sent-bytes : Bytes v
   unfolding fetched
-  sent-bytes = part-bytes (w .storage) (d .address) (d .count) (under-bytes (w .storage) (W .bytes))
+  sent-bytes = part-bytes (w .storage) (d .address) (d .count) (under-bytes (w .storage) (W .lent))
 
-  leaves : Leaves (ruleOf (d .code)) k o v t x
+  pub leaves : Leaves (ruleOf (d .code)) k o v t x
   unfolding turnOf trackUnder under tracksOf
   leaves =
       writes-leave g (tracksOf g (w .cells) (w .held .position .cylinder)) (w .held .position) o (d .code) v sent-bytes k (W .act)
@@ -200,10 +200,15 @@ module _ (g : Shape) (w : World) (d : Word) (k : Write) (W : Wrote g w d k) wher
         ap (λ (a : Act). actReaches a t (o .selection) i) (W .act)
         ∙ ap (λ (y : Selection). reachesFrom k t (recordTaken k y) i) is ∙ ap (λ (y : Selection). reachesFrom k t y i) q ∙ e
 
+    pub cell-kept : recordTaken k (On spot) ≡ On spot → (i : ℕ) → reaches k (countFirst spot) (countsAt t (countFirst spot)) i ≡ false
+        → getD t′ i 0 ≡ getD t i 0
+    unfolding trackUnder tracksOf under turnOf trackAfter
+    cell-kept q i e = confined .cells i (may-not i (reached i e q))
+
     kept : recordTaken k (On spot) ≡ On spot → (a : Area) → ((i : ℕ) → In a i → reaches k (countFirst spot) (countsAt t (countFirst spot)) i ≡ false)
         → areaCells t′ a ≡ areaCells t a
     unfolding trackUnder tracksOf under turnOf trackAfter
-    kept q a f = same-cells t t′ a (confined .long) (λ i h. confined .cells i (may-not i (reached i (f i h) q)))
+    kept q a f = same-cells t t′ a (confined .long) (λ i h. cell-kept q i (f i h))
 
 -- ---- each write
 
@@ -244,7 +249,7 @@ module _ (g : Shape) (w : World) (d : Word) where
   left-each Write.R0 W P spot took B = record { counts = _; holds = new-holds _ _ _ _ _ (sent-bytes g w d Write.R0 W) B }
   left-each Write.CountKeyData W P spot took B =
       subst (λ (y : Selection). LeftThere Write.CountKeyData y (behind (trackUnder g w) y)) (sym took)
-      (record { counts = _; holds = new-holds _ _ _ _ _ (sent-bytes g w d Write.CountKeyData W) B })
+      (record { counts = _; holds = new-holds _ _ _ _ _ (sent-bytes g w d Write.CountKeyData W) (B .back) })
   left-each (Write.Update key) W P spot took B =
       subst (λ (y : Selection). LeftThere (Write.Update key) y (selected y)) (sym took)
       (record { counts = _; holds = update-holds key _ _ _ _ B (count-back g w d key W spot took P) })

@@ -8,6 +8,7 @@ pub mod Again
 pub mod Lost
 pub mod Back
 pub mod Example
+pub mod There
 pub mod FoundWalk
 pub mod FoundWord
 pub mod FoundMet

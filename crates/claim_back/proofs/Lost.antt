@@ -18,7 +18,8 @@ use Rattle.turn.specs.Turn.{Tracks, given, Turn, lay, checkTurn}
 use Rattle.command.specs.Command.{marksOf}
 use Rattle.channel.specs.Channel.{fetched, World}
 use Rattle.chain.specs.Step.{under, trackUnder, tracksOf, turnOf, step}
-use Rattle.claim_back.specs.Back.{OnRecord, selected, leftBy, takenBy, namesKey, countsOn, Since, trackOn, countsThere, Wrote, Rereads, KeyUnreadable, KeyLost}
+use Rattle.claim_box.specs.Confined.{trackOn}
+use Rattle.claim_back.specs.Back.{OnRecord, selected, leftBy, takenBy, namesKey, countsOn, Since, countsThere, Wrote, Rereads, KeyUnreadable, KeyLost}
 use Rattle.claim_back.proofs.Plans.{NamesCount, record-plan, record-named}
 use Rattle.claim_back.proofs.Given.{key-checked}
 use Rattle.claim_back.proofs.Left.{track-left, count-same, count-readable, key-same}

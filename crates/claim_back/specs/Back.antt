@@ -16,7 +16,7 @@ use Rattle.hunt.specs.declared.{Spot.Spot, Next.Next}
 use Rattle.hunt.specs.Hunt.{countFirst, nextRecord}
 use Rattle.recording.specs.Recording.{countSent}
 use Rattle.pack.specs.declared.{Shape.Shape}
-use Rattle.pack.specs.Pack.{trackNo, trackAt}
+use Rattle.pack.specs.Pack.{trackAt}
 use Rattle.held.specs.declared.{Selection.Selection, Position.Position, Orders.Orders, Held.Held}
 use Rattle.turn.specs.declared.{Ending.Ending}
 use Rattle.turn.specs.Turn.{Gives, given, reportOf, isCheck}
@@ -29,8 +29,8 @@ use Rattle.host.specs.declared.{Guarded.Guarded}
 use Rattle.host.specs.Host.{guardOf, ifPasses, starts, goes}
 use Rattle.sound.specs.Sound.{endAt}
 use Rattle.claim_box.specs.Boxes.{allUnder}
-use Rattle.claim_box.specs.Confined.{inStatus, sparesByte, sparesTrack}
-use Rattle.claim_sound.specs.Soundness.{bytes}
+use Rattle.claim_box.specs.Confined.{inStatus, sparesByte, trackOn}
+use Rattle.claim_sound.specs.Soundness.{bytes, sparesDone}
 
 -- ---- "that record": what a write leaves and a read takes, the home address or a record
 
@@ -136,21 +136,17 @@ passesKey Write.R0 n = false
 passesKey Write.CountKeyData n = false
 passesKey (Write.Update key) n = both (not key) (ltb 0 (n .kl))
 
--- ---- "with no later write on that track": v comes after w, and no word between them writes on track m
+-- ---- "with no later write on that track": v comes after w, and no write between them is done on track m
 
 pub data Since (g : Shape) (m : ℕ) (w : World) : World → Type 0 where
   now : Since g m w w
-  words : {v : World} (n : ℕ) → Since g m w v → Legal g v → sparesTrack g m n v ≡ true → Since g m w (run g n v)
+  words : {v : World} (n : ℕ) → Since g m w v → Legal g v → sparesDone g m n v ≡ true → Since g m w (run g n v)
   start : {v : World} → Since g m w v → Since g m w (starts g v .left)
-  go : {v : World} (n : ℕ) → Since g m w v → ifPasses (guardOf g v) (sparesTrack g m n v) ≡ true → Since g m w (goes g n v .left)
+  go : {v : World} (n : ℕ) → Since g m w v → ifPasses (guardOf g v) (sparesDone g m n v) ≡ true → Since g m w (goes g n v .left)
   -- the host between two calls brings another held state and other storage
   host : {v : World} (h : Held) (s : List ℕ) → Since g m w v → Since g m w (world h s (v .cells))
 
 -- ---- a write, and a read of what it wrote
-
--- the number of the track under the head
-abbrev pub trackOn : Shape → World → ℕ
-trackOn g w = trackNo g (w .held .position .cylinder) (w .held .position .head)
 
 -- the count of the record selected
 unfoldable pub countsOn : List ℕ → Selection → Counts
@@ -163,7 +159,7 @@ countsThere g w = countsOn (trackUnder g w) (w .held .orders .selection)
 -- the next word d of w is the write k, and ends without Unit Check; storage holds bytes
 pub record Wrote (g : Shape) (w : World) (d : Word) (k : Write) : Type 0 where
   pub legal : Legal g w
-  pub bytes : allUnder bytes (w .storage) ≡ true
+  pub lent : allUnder bytes (w .storage) ≡ true
   pub word : next w ≡ Tested.Obey d
   pub act : ruleOf (d .code) .act ≡ Act.Write k
   pub done : isCheck (turnOf g w d .ending) ≡ false
@@ -220,9 +216,9 @@ pub record WrittenReadsBack (g : Shape) : Type 0 where
   -- "with no later write on that track": its cells are those that the write left
   pub kept : (m : ℕ) (w v : World) → Since g m w v
       → (trackAt (v .cells) (m * trackCells) ≡ trackAt (w .cells) (m * trackCells)) × (length (v .cells) ≡ length (w .cells))
-  -- .. and where the write is word j + 1 of a go of n, what that go leaves comes after it, if no later word of it writes on that track
+  -- .. and where the write is word j + 1 of a go of n, what that go leaves comes after it, if no write of its later words is done on that track
   pub rest : (m : ℕ) (v : World) (n j : ℕ) → guardOf g v ≡ Guarded.Passes → j < n → run g j v .held .channel .going ≡ true
-      → sparesTrack g m (n - j - 1) (step g (run g j v)) ≡ true → Since g m (step g (run g j v)) (goes g n v .left)
+      → sparesDone g m (n - j - 1) (step g (run g j v)) ≡ true → Since g m (step g (run g j v)) (goes g n v .left)
   -- "places, of each area that the write laid and as far as its count goes, the bytes sent, zeros for those missing"
   pub read : (w : World) (d : Word) (k : Write) (u : World) (e : Word) (c : Bool) → Rereads g w d k u e c → namesPassed g w k e ≡ false
       → Back g u e (sentAt g w d k) (askedBy e c (sentAt g w d k))

@@ -13,7 +13,7 @@ use Rattle.cells.proofs.Tests.{first-of, second-of}
 use Rattle.words.specs.declared.{Tested.Tested}
 use Rattle.words.specs.declared.Tested.the-variants.{Obey, Jump, Bad}
 use Rattle.pack.specs.declared.{Shape.Shape}
-use Rattle.pack.specs.Pack.{trackNo, startOf}
+use Rattle.pack.specs.Pack.{startOf}
 use Rattle.held.specs.declared.{Selection.Selection, Orders.Orders}
 use Rattle.table.specs.declared.{Act.Act, Rule.Rule}
 use Rattle.command.specs.Command.{licensed}
@@ -21,7 +21,7 @@ use Rattle.channel.specs.Channel.{World}
 use Rattle.chain.specs.Step.{under, trackUnder, next, step, run, testedWrites, Legal}
 use Rattle.chain.proofs.Legal.{step-legal}
 use Rattle.chain.proofs.Runs.{run-sizes}
-use Rattle.claim_box.specs.Confined.{among, actReaches, bars, mayChange, wordChanges, changes, spares, sparesCell, sparesByte, writesOn, sparesTrack, RunConfined}
+use Rattle.claim_box.specs.Confined.{among, actReaches, bars, mayChange, wordChanges, changes, spares, sparesCell, sparesByte, trackOn, writesOn, sparesTrack, RunConfined}
 use Rattle.claim_box.proofs.Outside.{out-test, apart}
 use Rattle.claim_box.proofs.NextWord.{none-elsewhere, step-confined}
 
@@ -61,18 +61,18 @@ module _ (g : Shape) where
   word-spares w (Jump a) i e = refl
   word-spares w (Bad cause) i e = refl
 
-  off-spares : (w : World) (m i : ℕ) → i < trackCells → eqb m (trackNo g (w .held .position .cylinder) (w .held .position .head)) ≡ false
+  off-spares : (w : World) (m i : ℕ) → i < trackCells → eqb m (trackOn g w) ≡ false
       → among (under g (w .held)) trackCells (m * trackCells + i) ≡ false
   unfolding under startOf
   off-spares w m i h e =
       out-test _ trackCells (m * trackCells + i)
-      (apart m (trackNo g (w .held .position .cylinder) (w .held .position .head)) i (eqb-false _ _ e) h)
+      (apart m (trackOn g w) i (eqb-false _ _ e) h)
 
   off-writes : (w : World) (m i : ℕ) → i < trackCells → writesOn g m w ≡ false → changes g w (m * trackCells + i) ≡ false
   unfolding writesOn changes
-  off-writes w m i h e = go (eqb m (trackNo g (w .held .position .cylinder) (w .held .position .head))) refl e
+  off-writes w m i h e = go (eqb m (trackOn g w)) refl e
     where
-      go : (b : Bool) → eqb m (trackNo g (w .held .position .cylinder) (w .held .position .head)) ≡ b → both b (testedWrites (next w)) ≡ false
+      go : (b : Bool) → eqb m (trackOn g w) ≡ b → both b (testedWrites (next w)) ≡ false
           → wordChanges g w (m * trackCells + i) (next w) ≡ false
       go true p f = word-spares w (next w) (m * trackCells + i) f
       go false p f = none-elsewhere g w (next w) (m * trackCells + i) (off-spares w m i h p)

@@ -171,9 +171,13 @@ sparesCell g i n w = spares g (λ (v : World). changes g v i) n w
 unfoldable pub sparesByte : Shape → ℕ → ℕ → World → Bool
 sparesByte g i n w = spares g (λ (v : World). stores g v i) n w
 
+-- the number of the track under the head
+abbrev pub trackOn : Shape → World → ℕ
+trackOn g w = trackNo g (w .held .position .cylinder) (w .held .position .head)
+
 -- none is a write while the head is on track m
 unfoldable pub writesOn : Shape → ℕ → World → Bool
-writesOn g m w = both (eqb m (trackNo g (w .held .position .cylinder) (w .held .position .head))) (testedWrites (next w))
+writesOn g m w = both (eqb m (trackOn g w)) (testedWrites (next w))
 
 unfoldable pub sparesTrack : Shape → ℕ → ℕ → World → Bool
 sparesTrack g m n w = spares g (writesOn g m) n w

@@ -6,7 +6,7 @@ use mathlib.Core.Bool.{Bool, true}
 use mathlib.Core.List.{List, [], _∷_}
 use native.Mathlib.Omega.{arith}
 use lib.ListN.{length, getD}
-use Rattle.cells.specs.Cells.{trackCells}
+use Rattle.cells.specs.Cells.{both, trackCells}
 use Rattle.words.specs.Words.{tested, stored, statusFor}
 use Rattle.areas.specs.declared.{Area.Area}
 use Rattle.pack.specs.declared.{Shape.Shape}
@@ -25,15 +25,15 @@ use Rattle.sound.specs.Sound.{Sound}
 use Rattle.box_export.specs.Calls.{Call, call, callOf}
 use Rattle.box_export.proofs.Laws.{kept-long}
 use Rattle.claim_box.specs.Boxes.{allUnder}
-use Rattle.claim_box.specs.Confined.{CallConfined}
-use Rattle.claim_box.specs.Demand3.{track, Harmed, HostCall, start, go, hear, heard, left, sparedCalls, Agrees, AllAgree, FirstReads, EndsThere, dataCheck, Demand3}
+use Rattle.claim_box.specs.Confined.{spares, CallConfined}
+use Rattle.claim_box.specs.Demand3.{track, Harmed, HostCall, start, go, hear, heard, left, spared, sparedCall, sparedCalls, Agrees, AllAgree, FirstReads, EndsThere, dataCheck, Demand3}
 use Rattle.claim_box.specs.Demand3 as Told
 use Rattle.claim_box.proofs.Confined.{all-confined}
 use Rattle.claim_box.proofs.Demand3 as Proved
-use Rattle.claim_sound.specs.Soundness.{InBytes, knownCalls, AllSound, homesKept}
+use Rattle.claim_sound.specs.Soundness.{InBytes, writesHome, done, knownCall, knownCalls, AllSound, homeKept, homesKept}
 use Rattle.claim_sound.proofs.Soundness.{soundness-lasts}
 use Rattle.claim_sound.proofs.Bytes.{under-bytes}
-use Rattle.claim_host.specs.Linked.{link, links, linkedTo, ifHeld, worldBy, ifRuns, used, LinkCut, LinkConfined, LinkAgrees, AllLinksAgree, none, more, sparedLinks, LinkFirst, LinkEnds, withCells, LinkDemand3, LentBytes, knownBy, knownLinks, Linked}
+use Rattle.claim_host.specs.Linked.{link, links, linkedTo, ifHeld, worldBy, ifRuns, ifRun, ifAllRun, used, LinkCut, LinkConfined, LinkAgrees, AllLinksAgree, none, more, sparedLinks, LinkFirst, LinkEnds, withCells, LinkDemand3, LentBytes, knownBy, knownLink, knownLinks, homesLeft, Linked}
 use Rattle.claim_host.proofs.Says.{by-kept, refused, Says, link-holds, link-wrong, link-says, left-says, left-wrong}
 
 -- ---- answers by their numbers
@@ -127,6 +127,61 @@ module _ (g : Shape) where
       wrong = λ k e. subst (λ (y : Call). (y .held ≡ x .held) × (y .storage ≡ x .storage) × (y .cells ≡ x .cells)) (sym (link-wrong g k x e)) (refl, refl, refl);
     }
 
+  -- ---- the words of calls, told on lent bytes and on the world that they say
+
+  module _ (f : ℕ → World → Bool) where
+    -- of a call, and of calls, in the model
+    abbrev ranIn : HostCall → World → Bool
+    ranIn start w = true
+    ranIn (go n) w = ifPasses (guardOf g w) (f n w)
+
+    abbrev allRan : List HostCall → World → Bool
+    allRan [] w = true
+    allRan (k ∷ ks) w = both (ranIn k w) (allRan ks (hear g k w .left))
+
+    ran-says : (k : HostCall) (x : Call) (w : World) → Says x w → ifRun g f k x ≡ ranIn k w
+    unfolding ifRun ifRuns ifHeld
+    ran-says start x w s = refl
+    ran-says (go n) x w s =
+        ap (λ (k : Kept). ifHeld k (λ (h : Held). ifPasses (guardOf g (worldBy x h)) (f n (worldBy x h)))) (s .held)
+        ∙ ap (λ (v : World). ifPasses (guardOf g v) (f n v)) (s .same)
+
+    all-says : (ks : List HostCall) (x : Call) (w : World) → Says x w → ifAllRun g f ks x ≡ allRan ks w
+    unfolding ifAllRun linkedTo left
+    all-says [] x w s = refl
+    all-says (k ∷ ks) x w s =
+        ap (λ (b : Bool). both b (ifAllRun g f ks (link g k x))) (ran-says k x w s)
+        ∙ ap (both (ranIn k w)) (all-says ks (link g k x) (hear g k w .left) (left-says g (k ∷ []) x w s))
+
+  known-says : (m : ℕ) (ks : List HostCall) (x : Call) (w : World) → Says x w → (b : Bool) → knownLinks g m ks x b ≡ knownCalls g m ks w b
+  unfolding knownLinks knownLink knownBy knownCalls linkedTo left
+  known-says m [] x w s b = refl
+  known-says m (k ∷ ks) x w s b =
+      ap (knownLinks g m ks (link g k x))
+      (ap (λ (y : Kept). knownBy y (λ (h : Held). knownCall g m k (worldBy x h) b) b) (s .held) ∙ ap (λ (v : World). knownCall g m k v b) (s .same))
+      ∙ known-says m ks (link g k x) (hear g k w .left) (left-says g (k ∷ []) x w s) (knownCall g m k w b)
+
+  -- bytes that say nothing: what was known stays
+  known-wrong : (m : ℕ) (ks : List HostCall) (x : Call) → kept (x .held) ≡ Wrong → (b : Bool) → knownLinks g m ks x b ≡ b
+  unfolding knownLinks knownLink knownBy
+  known-wrong m [] x e b = refl
+  known-wrong m (k ∷ ks) x e b =
+      ap (knownLinks g m ks (link g k x)) (ap (λ (y : Kept). knownBy y (λ (h : Held). knownCall g m k (worldBy x h) b) b) e)
+      ∙ ap (λ (y : Call). knownLinks g m ks y b) (link-wrong g k x e) ∙ known-wrong m ks (refused g x) e b
+
+  -- the two tests, as the model has them
+  spared-are : (n : ℕ) (x : Area) (ks : List HostCall) (w : World) → allRan (spared g n x) ks w ≡ sparedCalls g n x ks w
+  unfolding sparedCalls sparedCall
+  spared-are n x [] w = refl
+  spared-are n x (start ∷ ks) w = spared-are n x ks (hear g start w .left)
+  spared-are n x (go k ∷ ks) w = ap (both (ifPasses (guardOf g w) (spared g n x k w))) (spared-are n x ks (hear g (go k) w .left))
+
+  homes-are : (ks : List HostCall) (w : World) → allRan (λ (n : ℕ). spares g (done g writesHome) n) ks w ≡ homesKept g ks w
+  unfolding homesKept homeKept
+  homes-are [] w = refl
+  homes-are (start ∷ ks) w = homes-are ks (hear g start w .left)
+  homes-are (go k ∷ ks) w = ap (both (ifPasses (guardOf g w) (spares g (done g writesHome) k w))) (homes-are ks (hear g (go k) w .left))
+
   -- ---- demand 3
 
   holds-not : (h : Held) → Holds h ≡ Wrong → ⊥
@@ -172,8 +227,9 @@ module _ (g : Shape) where
 
     module _ (a : ℕ) (v st : List ℕ) (ks : List HostCall) (q : sparedLinks g n x ks (call a v st c) ≡ true) where
       spared-by : (h : Held) → kept v ≡ Holds h → sparedCalls g n x ks (world h st c) ≡ true
-      unfolding sparedLinks ifHeld
-      spared-by h e = sym (ap (λ (k : Kept). ifHeld k (λ (y : Held). sparedCalls g n x ks (world y st c))) e) ∙ q
+      unfolding sparedLinks
+      spared-by h e =
+          sym (spared-are n x ks (world h st c)) ∙ sym (all-says (spared g n x) ks (call a v st c) (world h st c) (record { held = e; same = refl })) ∙ q
 
       all-agree : AllLinksAgree c c′ (links g ks (call a v st c)) (links g ks (call a v st c′))
       all-agree =
@@ -258,24 +314,21 @@ module _ (g : Shape) where
         (λ e. ap (allUnder 256) (left-wrong g ks x e .1) ∙ b .storage)
 
     track-left : (m : ℕ) (y : Bool) → (y ≡ true → Sound (track (x .cells) m)) → knownLinks g m ks x y ≡ true → Sound (track (linkedTo g ks x .cells) m)
-    unfolding knownLinks knownBy
     track-left m y S q =
         by-kept (x .held) _
         (λ h e.
         subst (λ (c : List ℕ). Sound (track c m)) (sym (cells-left h e))
-        (soundness-lasts g .calls m ks (worldBy x h) (in-bytes h e) y S
-        (sym (ap (λ (k : Kept). knownBy k (λ (z : Held). knownCalls g m ks (worldBy x z) y) y) e) ∙ q)))
-        (λ e.
-        subst (λ (c : List ℕ). Sound (track c m)) (sym (left-wrong g ks x e .2))
-        (S (sym (ap (λ (k : Kept). knownBy k (λ (z : Held). knownCalls g m ks (worldBy x z) y) y) e) ∙ q)))
+        (soundness-lasts g .calls m ks (worldBy x h) (in-bytes h e) y S (sym (known-says m ks x (worldBy x h) (record { held = e; same = refl }) y) ∙ q)))
+        (λ e. subst (λ (c : List ℕ). Sound (track c m)) (sym (left-wrong g ks x e .2)) (S (sym (known-wrong m ks x e y) ∙ q)))
 
-    pack-left : ifHeld (kept (x .held)) (λ (h : Held). homesKept g ks (worldBy x h)) ≡ true → AllSound g (x .cells) → AllSound g (linkedTo g ks x .cells)
-    unfolding ifHeld
+    pack-left : homesLeft g ks x ≡ true → AllSound g (x .cells) → AllSound g (linkedTo g ks x .cells)
+    unfolding homesLeft
     pack-left q S =
         by-kept (x .held) _
         (λ h e.
         subst (AllSound g) (sym (cells-left h e))
-        (soundness-lasts g .pack ks (worldBy x h) (in-bytes h e) (sym (ap (λ (k : Kept). ifHeld k (λ (z : Held). homesKept g ks (worldBy x z))) e) ∙ q) S))
+        (soundness-lasts g .pack ks (worldBy x h) (in-bytes h e)
+        (sym (homes-are ks (worldBy x h)) ∙ sym (all-says _ ks x (worldBy x h) (record { held = e; same = refl })) ∙ q) S))
         (λ e. subst (AllSound g) (sym (left-wrong g ks x e .2)) S)
 
 -- ---- all of it

@@ -6,7 +6,7 @@ use mathlib.Core.Path.{_≡_}
 use mathlib.Core.Bool.{Bool, true, false}
 use mathlib.Core.List.{List, [], _∷_}
 use lib.ListN.{length, getD}
-use Rattle.cells.specs.Cells.{trackCells, gap}
+use Rattle.cells.specs.Cells.{both, trackCells, gap}
 use Rattle.words.specs.declared.{Word.Word, Tested.Tested}
 use Rattle.words.specs.Words.{stored, statusFor}
 use Rattle.areas.specs.declared.{Area.Area}
@@ -21,9 +21,9 @@ use Rattle.host.specs.Host.{guardOf, ifPasses, answerNo}
 use Rattle.sound.specs.Sound.{Sound}
 use Rattle.box_export.specs.Calls.{Call, startCall, goCall}
 use Rattle.claim_box.specs.Boxes.{allUnder}
-use Rattle.claim_box.specs.Confined.{among, sparesCell, sparesByte, sparesTrack}
-use Rattle.claim_box.specs.Demand3.{track, Harmed, HostCall, start, go, sparedCalls, FirstReads, dataCheck}
-use Rattle.claim_sound.specs.Soundness.{bytes, knownCalls, AllSound, homesKept}
+use Rattle.claim_box.specs.Confined.{among, spares, sparesCell, sparesByte, sparesTrack}
+use Rattle.claim_box.specs.Demand3.{track, Harmed, HostCall, start, go, spared, FirstReads, dataCheck}
+use Rattle.claim_sound.specs.Soundness.{bytes, writesHome, done, knownCall, AllSound}
 
 -- ---- the calls
 
@@ -50,9 +50,18 @@ ifHeld Kept.Wrong f = true
 abbrev pub worldBy : Call → Held → World
 worldBy x h = world h (x .storage) (x .cells)
 
--- .. of the words of a go that passes the refusals
+-- what holds of the words of a go: nothing runs if it is refused
 unfoldable pub ifRuns : Shape → Call → (World → Bool) → Bool
 ifRuns g x f = ifHeld (kept (x .held)) (λ (h : Held). ifPasses (guardOf g (worldBy x h)) (f (worldBy x h)))
+
+-- .. and of all words that run in these calls
+unfoldable pub ifRun : Shape → (ℕ → World → Bool) → HostCall → Call → Bool
+ifRun g f start x = true
+ifRun g f (go n) x = ifRuns g x (f n)
+
+unfoldable pub ifAllRun : Shape → (ℕ → World → Bool) → List HostCall → Call → Bool
+ifAllRun g f [] x = true
+ifAllRun g f (k ∷ ks) x = both (ifRun g f k x) (ifAllRun g f ks (link g k x))
 
 -- ---- demand 1: "Cutting it into parts, with lent memory untouched between, changes nothing."
 
@@ -98,7 +107,7 @@ pub data AllLinksAgree (c c′ : List ℕ) : List Call → List Call → Type 0 
 
 -- no word that ran in these calls was a write, and none read the area x of track n
 unfoldable pub sparedLinks : Shape → ℕ → Area → List HostCall → Call → Bool
-sparedLinks g n x ks y = ifHeld (kept (y .held)) (λ (h : Held). sparedCalls g n x ks (worldBy y h))
+sparedLinks g n x ks y = ifAllRun g (spared g n x) ks y
 
 -- the first word that reads it is word k + 1 of a go from y, whose bytes say this held state
 pub record LinkFirst (g : Shape) (n : ℕ) (x : Area) (allowance k : ℕ) (y : Call) : Type 0 where
@@ -135,20 +144,27 @@ pub record LentBytes (x : Call) : Type 0 where
   pub held : allUnder bytes (x .held) ≡ true
   pub storage : allUnder bytes (x .storage) ≡ true
 
--- whether track m is known to be soundly written after these calls; nothing runs if the bytes encode no held state
+-- whether track m is known to be soundly written after a call, and after calls; nothing runs if the bytes encode no held state
 unfoldable pub knownBy : Kept → (Held → Bool) → Bool → Bool
 knownBy (Kept.Holds h) f b = f h
 knownBy Kept.Wrong f b = b
 
+unfoldable pub knownLink : Shape → ℕ → HostCall → Call → Bool → Bool
+knownLink g m k x b = knownBy (kept (x .held)) (λ (h : Held). knownCall g m k (worldBy x h) b) b
+
 unfoldable pub knownLinks : Shape → ℕ → List HostCall → Call → Bool → Bool
-knownLinks g m ks x b = knownBy (kept (x .held)) (λ (h : Held). knownCalls g m ks (worldBy x h) b) b
+knownLinks g m [] x b = b
+knownLinks g m (k ∷ ks) x b = knownLinks g m ks (link g k x) (knownLink g m k x b)
+
+-- no Write HA was done in these calls
+unfoldable pub homesLeft : Shape → List HostCall → Call → Bool
+homesLeft g ks x = ifAllRun g (λ (n : ℕ). spares g (done g writesHome) n) ks x
 
 pub record LinkSound (g : Shape) (ks : List HostCall) (x : Call) : Type 0 where
   pub lent-storage : LentBytes x → allUnder bytes (linkedTo g ks x .storage) ≡ true
   pub track-sound : LentBytes x → (m : ℕ) (b : Bool) → (b ≡ true → Sound (track (x .cells) m)) → knownLinks g m ks x b ≡ true
       → Sound (track (linkedTo g ks x .cells) m)
-  pub pack-sound : LentBytes x → ifHeld (kept (x .held)) (λ (h : Held). homesKept g ks (worldBy x h)) ≡ true → AllSound g (x .cells)
-      → AllSound g (linkedTo g ks x .cells)
+  pub pack-sound : LentBytes x → homesLeft g ks x ≡ true → AllSound g (x .cells) → AllSound g (linkedTo g ks x .cells)
 
 -- ---- all of it
 

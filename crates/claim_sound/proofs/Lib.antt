@@ -2,4 +2,5 @@
 pub mod Bytes
 pub mod Turns
 pub mod Words
+pub mod Tracks
 pub mod Soundness

@@ -1,33 +1,31 @@
 -- Soundness lasts. By the word: another track's cells stand; on the track under the head only a write lays cells, and none if it ends in Unit Check; Write R0
 -- leaves a soundly written track whatever it was, the others one if it was, but for Write HA (`claim_track:Commands`), after which nothing is known. By the
 -- allowance, the call and the calls: one after another, each from a legal world whose storage is bytes.
-use Prim.Native.Nat.{ℕ, zero, suc, _+_, _*_}
+use Prim.Native.Nat.{ℕ, zero, suc}
 use mathlib.Core.Path.{_≡_, refl, sym, ap, _∙_, subst}
 use mathlib.Core.Bool.{Bool, true, false, not, false≢true, true≢false}
 use mathlib.Core.List.{List, [], _∷_}
 use native.Mathlib.Omega.{arith}
 use lib.Dec.{eqb}
 use borrow.Author.Tests.{eqb-true, eqb-false, not-true}
-use Rattle.cells.specs.Cells.{pick, both, trackCells, marks}
+use Rattle.cells.specs.Cells.{pick, both, marks}
 use Rattle.cells.proofs.Numbers.{Bytes, part-bytes}
 use Rattle.cells.proofs.Marks.{both-never}
 use Rattle.cells.proofs.Tests.{first-of, second-of, pick-all}
 use Rattle.rows.specs.declared.{Row.Row}
 use Rattle.words.specs.declared.{Word.Word, Tested.Tested}
 use Rattle.words.specs.declared.Tested.the-variants.{Obey, Jump, Bad}
-use Rattle.words.specs.Words.{AreaFits}
 use Rattle.words.proofs.Obeys.{TestedIn, tested-in}
 use Rattle.pack.specs.declared.{Shape.Shape}
-use Rattle.pack.specs.Pack.{trackNo, startOf}
+use Rattle.pack.specs.Pack.{startOf}
 use Rattle.held.specs.declared.{Orders.Orders}
 use Rattle.table.specs.declared.{Write.Write, Act.Act, Rule.Rule}
 use Rattle.table.specs.Table.{ruleOf, isWrite}
 use Rattle.turn.specs.declared.{Ending.Ending}
 use Rattle.turn.specs.Turn.{Piece, Turn, isCheck, lay}
 use Rattle.command.specs.Command.{SelectedOn}
-use Rattle.command.proofs.Turns.{check-lays, only-writes-lay}
 use Rattle.channel.specs.Channel.{fetched, World, stops}
-use Rattle.chain.specs.Step.{under, trackUnder, next, tracksOf, turnOf, obeyed, stepBy, step, run, Legal}
+use Rattle.chain.specs.Step.{under, trackUnder, next, tracksOf, turnOf, stepBy, step, run, Legal}
 use Rattle.chain.proofs.Fits.{selected-on, ordered}
 use Rattle.chain.proofs.Legal.{track-whole, step-legal}
 use Rattle.chain.proofs.Runs.{run-idle}
@@ -38,13 +36,12 @@ use Rattle.host.proofs.Laws.{passes-legal}
 use Rattle.sound.specs.Sound.{Sound}
 use Rattle.claim_track.specs.Lasting.{Lasts, Leaves, unchanged, written}
 use Rattle.claim_track.proofs.Commands.{writes-leave, writes-sound}
-use Rattle.claim_box.specs.Confined.{spares}
+use Rattle.claim_box.specs.Confined.{trackOn, spares}
 use Rattle.claim_box.specs.Demand3.{track, HostCall, start, go, hear, left}
-use Rattle.claim_box.proofs.Outside.{apart, same-track}
-use Rattle.claim_box.proofs.NextWord.{track-left}
 use Rattle.claim_box.proofs.Confined.{all-confined}
 use Rattle.claim_sound.specs.Soundness.{InBytes, writesHome, writesR0, isThe, testedDone, done, doneOn, knownNext, knownRun, knownGo, knownCall, knownCalls, Known, homeKept, homesKept, SoundnessLasts}
 use Rattle.claim_sound.proofs.Bytes.{under-bytes}
+use Rattle.claim_sound.proofs.Tracks.{other-track, put-there, none-laid, checked-laid, run-same}
 use Rattle.claim_sound.proofs.Words.{step-bytes, call-bytes, calls-bytes}
 
 -- ---- a write that was done left what lasts
@@ -58,25 +55,17 @@ done-lasts r k o v t x e (unchanged row c q) = absurd (true≢false (sym (check-
 done-lasts r k o v t x e (written a spot took n p q) = p
 
 -- no cell laid
-none-laid : (l : List Piece) (t : List ℕ) → l ≡ [] → Sound t → Sound (lay l t)
+as-it-was : (l : List Piece) (t : List ℕ) → l ≡ [] → Sound t → Sound (lay l t)
 unfolding lay
-none-laid l t e S = subst (λ (y : List Piece). Sound (lay y t)) (sym e) S
+as-it-was l t e S = subst (λ (y : List Piece). Sound (lay y t)) (sym e) S
 
 module _ (g : Shape) where
   module _ (w : World) (L : Legal g w) (b : InBytes w) where
     abbrev here : ℕ
-    here = trackNo g (w .held .position .cylinder) (w .held .position .head)
+    here = trackOn g w
 
     abbrev t : List ℕ
     t = trackUnder g w
-
-    -- ---- another track
-
-    other-track : (m : ℕ) → (m ≡ here → ⊥) → track (step g w .cells) m ≡ track (w .cells) m
-    unfolding under startOf
-    other-track m d =
-        let C = all-confined g .word w L in
-        same-track (w .cells) (step g w .cells) m (C .long) (λ i h. C .elsewhere (m * trackCells + i) (apart m here i d h))
 
     -- ---- the track under the head
 
@@ -105,13 +94,8 @@ module _ (g : Shape) where
             writes-sound g (tracksOf g (w .cells) (w .held .position .cylinder)) (w .held .position) (w .held .orders) (d .code) (fetched (w .storage) d)
             sent k act selected n S
 
-        checked : isCheck (x .ending) ≡ true → Sound t → Sound (lay (x .lays) t)
-        unfolding turnOf
-        checked e S = none-laid (x .lays) t (check-lays g _ (w .held .position) (w .held .orders) (d .code) (fetched (w .storage) d) e) S
-
-      quiet : isWrite (ruleOf (d .code) .act) ≡ false → Sound t → Sound (lay (x .lays) t)
-      unfolding turnOf
-      quiet e S = none-laid (x .lays) t (only-writes-lay g _ (w .held .position) (w .held .orders) (d .code) (fetched (w .storage) d) e) S
+      unlaid : x .lays ≡ [] → Sound t → Sound (lay (x .lays) t)
+      unlaid e S = as-it-was (x .lays) t e S
 
       -- by what the command is, and whether it ended in Unit Check
       abbrev knows : Act → Bool → Bool → Bool
@@ -120,20 +104,15 @@ module _ (g : Shape) where
       act-sound : (a : Act) → ruleOf (d .code) .act ≡ a → (c : Bool) → isCheck (x .ending) ≡ c → (y : Bool) → knows a c y ≡ true → (y ≡ true → Sound t)
           → Sound (lay (x .lays) t)
       unfolding isThe writesHome writesR0 isWrite Lasts
-      act-sound (Act.Control a) e c f y q S = quiet (ap isWrite e) (S q)
-      act-sound (Act.Search h) e c f y q S = quiet (ap isWrite e) (S q)
-      act-sound (Act.Read n) e c f y q S = quiet (ap isWrite e) (S q)
-      act-sound (Act.Write Write.HomeAddress) e true f y q S = checked Write.HomeAddress e f (S q)
+      act-sound (Act.Control a) e c f y q S = unlaid (none-laid g w L d (ap isWrite e)) (S q)
+      act-sound (Act.Search h) e c f y q S = unlaid (none-laid g w L d (ap isWrite e)) (S q)
+      act-sound (Act.Read n) e c f y q S = unlaid (none-laid g w L d (ap isWrite e)) (S q)
+      act-sound (Act.Write Write.HomeAddress) e true f y q S = unlaid (checked-laid g w L d f) (S q)
       act-sound (Act.Write Write.HomeAddress) e false f y q S = absurd (false≢true q)
-      act-sound (Act.Write Write.R0) e true f y q S = checked Write.R0 e f (S q)
+      act-sound (Act.Write Write.R0) e true f y q S = unlaid (checked-laid g w L d f) (S q)
       act-sound (Act.Write Write.R0) e false f y q S = done-lasts _ Write.R0 _ _ t x f (leaves Write.R0 e)
       act-sound (Act.Write Write.CountKeyData) e c f y q S = still-sound Write.CountKeyData e (λ z. let n : _≡_ {A = ℕ} 0 1 = cc in omega arith) (S q)
       act-sound (Act.Write (Write.Update key)) e c f y q S = still-sound (Write.Update key) e (λ z. let n : _≡_ {A = ℕ} 0 1 = cc in omega arith) (S q)
-
-      -- where it lies in the pack
-      put-there : AreaFits (w .storage) d → track (obeyed g w d .cells) here ≡ lay (x .lays) t
-      unfolding under startOf
-      put-there r = track-left g w L d (r .area)
 
     -- ---- the next word
 
@@ -144,7 +123,7 @@ module _ (g : Shape) where
       takes-sound : (z : Tested) → TestedIn (w .storage) z → knowsBy z ≡ true → Sound (track (stepBy g w z .cells) here)
       unfolding stepBy stops testedDone trackUnder under startOf
       takes-sound (Obey d) r q =
-          subst Sound (sym (put-there d (record { area = r }))) (act-sound d (ruleOf (d .code) .act) refl (isCheck (turnOf g w d .ending)) refl y q S)
+          subst Sound (sym (put-there g w L d r)) (act-sound d (ruleOf (d .code) .act) refl (isCheck (turnOf g w d .ending)) refl y q S)
       takes-sound (Jump a) r q = S q
       takes-sound (Bad cause) r q = S q
 
@@ -160,7 +139,7 @@ module _ (g : Shape) where
             subst (λ (k : ℕ). Sound (track (step g w .cells) k)) (sym p)
             (takes-sound y (λ f. subst (λ (k : ℕ). Sound (track (w .cells) k)) p (S f)) (next w)
             (tested-in (w .storage) (w .held .channel .next) (w .held .channel .«after_tic»)) q)
-        go false e q = subst Sound (sym (other-track m (eqb-false m here e))) (S q)
+        go false e q = subst Sound (sym (other-track g w L m (eqb-false m here e))) (S q)
 
     -- ---- a Write R0 that was done is no Write HA
 
@@ -229,7 +208,7 @@ module _ (g : Shape) where
   next-keeps : (m : ℕ) (w : World) → done g writesHome w ≡ false → knownNext g m w true ≡ true
   unfolding knownNext doneOn
   next-keeps m w e =
-      let here : ℕ = trackNo g (w .held .position .cylinder) (w .held .position .head) in
+      let here : ℕ = trackOn g w in
       ap (λ (b : Bool). pick b false (pick (both (eqb m here) (done g writesR0 w)) true true)) (ap (both (eqb m here)) e ∙ both-never (eqb m here))
       ∙ pick-all (λ (b : Bool). b ≡ true) (both (eqb m here) (done g writesR0 w)) refl refl
 
@@ -269,6 +248,7 @@ pub soundness-lasts : (g : Shape) → SoundnessLasts g
 soundness-lasts g = record {
   bytes-word = step-bytes g;
   bytes-calls = calls-bytes g;
+  same = run-same g;
   word = λ m w L b y S. step-known g w L b m y S;
   allowance = run-known g;
   calls = calls-known g;

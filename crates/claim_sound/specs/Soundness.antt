@@ -9,7 +9,6 @@ use lib.Dec.{eqb}
 use Rattle.cells.specs.Cells.{pick, both}
 use Rattle.words.specs.declared.{Tested.Tested}
 use Rattle.pack.specs.declared.{Shape.Shape}
-use Rattle.pack.specs.Pack.{trackNo}
 use Rattle.table.specs.declared.{Write.Write, Act.Act}
 use Rattle.table.specs.Table.{ruleOf}
 use Rattle.turn.specs.Turn.{isCheck}
@@ -19,7 +18,7 @@ use Rattle.host.specs.declared.{Guarded.Guarded}
 use Rattle.host.specs.Host.{guardOf, ifPasses}
 use Rattle.sound.specs.Sound.{Sound}
 use Rattle.claim_box.specs.Boxes.{allUnder}
-use Rattle.claim_box.specs.Confined.{spares}
+use Rattle.claim_box.specs.Confined.{trackOn, spares}
 use Rattle.claim_box.specs.Demand3.{track, HostCall, start, go, hear, left}
 
 -- ---- bytes: storage, and sense, which the command Sense stores
@@ -46,6 +45,9 @@ writesR0 Write.R0 = true
 writesR0 Write.CountKeyData = false
 writesR0 (Write.Update key) = false
 
+abbrev pub anyWrite : Write → Bool
+anyWrite k = true
+
 unfoldable pub isThe : (Write → Bool) → Act → Bool
 isThe f (Act.Control a) = false
 isThe f (Act.Search h) = false
@@ -62,7 +64,11 @@ unfoldable pub done : Shape → (Write → Bool) → World → Bool
 done g f w = testedDone g f w (next w)
 
 unfoldable pub doneOn : Shape → (Write → Bool) → ℕ → World → Bool
-doneOn g f m w = both (eqb m (trackNo g (w .held .position .cylinder) (w .held .position .head))) (done g f w)
+doneOn g f m w = both (eqb m (trackOn g w)) (done g f w)
+
+-- no write is done on track m by an allowance of n words
+unfoldable pub sparesDone : Shape → ℕ → ℕ → World → Bool
+sparesDone g m n w = spares g (doneOn g anyWrite m) n w
 
 -- ---- whether track m is known to be soundly written, which was known before or not
 
@@ -114,7 +120,9 @@ pub record SoundnessLasts (g : Shape) : Type 0 where
   -- storage of bytes stays bytes
   pub bytes-word : (w : World) → Legal g w → InBytes w → InBytes (step g w)
   pub bytes-calls : (ks : List HostCall) (w : World) → InBytes w → InBytes (left g ks w)
-  -- a track, by the word, the allowance, and any calls of a host
+  -- where no write was done on it a track is as it was
+  pub same : (m n : ℕ) (w : World) → Legal g w → sparesDone g m n w ≡ true → track (run g n w .cells) m ≡ track (w .cells) m
+  -- soundly written: a track, by the word, the allowance, and any calls of a host
   pub word : (m : ℕ) (w : World) → Legal g w → InBytes w → (b : Bool) → Known m (w .cells) b → Known m (step g w .cells) (knownNext g m w b)
   pub allowance : (m n : ℕ) (w : World) → Legal g w → InBytes w → (b : Bool) → Known m (w .cells) b → Known m (run g n w .cells) (knownRun g m n w b)
   pub calls : (m : ℕ) (ks : List HostCall) (w : World) → InBytes w → (b : Bool) → Known m (w .cells) b

@@ -26,7 +26,7 @@ use Rattle.format.proofs.Laws.{formatted, length-area, length-new, length-forma
 use Rattle.sound.specs.Sound.{flagAt, endAt, Record, Records, none, more, Sound}
 use Rattle.claim_track.specs.Damage.{IsRecord}
 use Rattle.claim_track.proofs.Areas.{cell-recorded, unmarked, begun-marker}
-use Rattle.claim_track.specs.Lasting.{HomeOnly, ReadsAs, NewBack}
+use Rattle.claim_track.specs.Lasting.{HomeOnly, ReadsAs, NewBack, MarkedBack}
 use Rattle.claim_track.proofs.Same.{same-cells, same-readable, same-bytes, same-counts, record-by, Has, has-back, has-area}
 use Rattle.claim_track.proofs.New.{new-back, new-record}
 
@@ -173,8 +173,11 @@ module _ (t v : List ℕ) (l : length t ≡ 4096) (b : Bytes v) (at f : ℕ) (fi
   record-has : Has recordLeft (at + 1) (newRecord (flagAfter f) v)
   record-has = has-back recordLeft at (marker ∷ []) (newRecord (flagAfter f) v) (formatted-has t at laidCells record-fits)
 
-  pub record-back : NewBack (flagAfter f) v recordLeft (at + 1)
-  record-back = new-back (flagAfter f) v recordLeft (at + 1) (flag-after f) b record-has
+  mark-laid : getD recordLeft at 0 ≡ 512
+  mark-laid = ap (λ (j : ℕ). getD recordLeft j 0) (sym (add-zero at)) ∙ formatted-inside t at laidCells record-fits 0 (omega arith)
+
+  pub record-back : MarkedBack (flagAfter f) v recordLeft at
+  record-back = record { mark = mark-laid; back = new-back (flagAfter f) v recordLeft (at + 1) (flag-after f) b record-has }
 
   gaps-behind : (i : ℕ) → at + 1 + length (newRecord (flagAfter f) v) ≤ i → getD recordLeft i 0 ≡ 0
   gaps-behind i h = formatted-behind t at laidCells record-fits i (omega arith)
@@ -182,7 +185,7 @@ module _ (t v : List ℕ) (l : length t ≡ 4096) (b : Bytes v) (at f : ℕ) (fi
   -- the new record, after one whose flag is f
   new-last : Records recordLeft f at
   new-last =
-      more (ap (λ (j : ℕ). getD recordLeft j 0) (sym (add-zero at)) ∙ formatted-inside t at laidCells record-fits 0 (omega arith))
+      more mark-laid
       (new-record (flagAfter f) v recordLeft (at + 1) (flag-after f) b record-has)
       (new-flag (flagAfter f) v recordLeft (at + 1) (flag-after f) b record-has gaps-behind)
       (last (flagAfter f) v recordLeft (at + 1) (flag-after f) b record-has gaps-behind _)

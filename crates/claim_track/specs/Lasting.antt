@@ -7,7 +7,7 @@ use mathlib.Core.Path.{_≡_}
 use mathlib.Core.Bool.{Bool, true}
 use mathlib.Core.List.{List, [], _∷_}
 use lib.ListN.{length, getD}
-use Rattle.cells.specs.Cells.{part, padded, trackCells, gap}
+use Rattle.cells.specs.Cells.{part, padded, trackCells, marker, gap}
 use Rattle.rows.specs.declared.{Row.Row}
 use Rattle.areas.specs.declared.{Area.Area}
 use Rattle.areas.specs.Areas.{homeBytes, homeArea, homeFlag, r0First, countArea, countsAt, keyArea, dataArea, dataBytes, readable, areaBytes, flagOfR0, flagAfter}
@@ -55,6 +55,11 @@ pub record NewBack (flag : ℕ) (v t : List ℕ) (c : ℕ) : Type 0 where
   pub body : ReadsAs t (dataArea c (newCounts flag v))
       (padded (dataBytes (newCounts flag v)) (part v (countSent + newCounts flag v .kl) (newCounts flag v .dl)))
 
+-- a new record behind another, its marker in cell p
+pub record MarkedBack (flag : ℕ) (v t : List ℕ) (p : ℕ) : Type 0 where
+  pub mark : getD t p gap ≡ marker
+  pub back : NewBack flag v t (p + 1)
+
 -- an update of the record whose count area is at c, with its key or not: its count as it was
 pub record UpdateBack (key : Bool) (v t t′ : List ℕ) (c : ℕ) : Type 0 where
   pub counts : countsAt t′ c ≡ countsAt t c
@@ -67,7 +72,7 @@ pub record UpdateBack (key : Bool) (v t t′ : List ℕ) (c : ℕ) : Type 0 wher
 unfoldable pub ReadsBack : Write → ℕ → List ℕ → List ℕ → List ℕ → Type 0
 ReadsBack Write.HomeAddress c v t t′ = ReadsAs t′ homeArea (padded homeBytes v)
 ReadsBack Write.R0 c v t t′ = NewBack (flagOfR0 (homeFlag t)) v t′ r0First
-ReadsBack Write.CountKeyData c v t t′ = NewBack (flagAfter (flagAt t c)) v t′ (endAt t c + 1)
+ReadsBack Write.CountKeyData c v t t′ = MarkedBack (flagAfter (flagAt t c)) v t′ (endAt t c)
 ReadsBack (Write.Update key) c v t t′ = UpdateBack key v t t′ c
 
 -- the record that a write takes is the one selected; Write HA and Write R0 take none
