@@ -328,7 +328,7 @@ module _ (g : Shape) where
         (λ h e.
         subst (AllSound g) (sym (cells-left h e))
         (soundness-lasts g .pack ks (worldBy x h) (in-bytes h e)
-        (sym (homes-are ks (worldBy x h)) ∙ sym (all-says _ ks x (worldBy x h) (record { held = e; same = refl })) ∙ q) S))
+        (sym (homes-are ks (worldBy x h)) ∙ sym (all-says (λ (n : ℕ). spares g (done g writesHome) n) ks x (worldBy x h) (record { held = e; same = refl })) ∙ q) S))
         (λ e. subst (AllSound g) (sym (left-wrong g ks x e .2)) S)
 
 -- ---- all of it
