@@ -321,14 +321,18 @@ module _ (g : Shape) where
         (soundness-lasts g .calls m ks (worldBy x h) (in-bytes h e) y S (sym (known-says m ks x (worldBy x h) (record { held = e; same = refl }) y) ∙ q)))
         (λ e. subst (λ (c : List ℕ). Sound (track c m)) (sym (left-wrong g ks x e .2)) (S (sym (known-wrong m ks x e y) ∙ q)))
 
-    pack-left : homesLeft g ks x ≡ true → AllSound g (x .cells) → AllSound g (linkedTo g ks x .cells)
+    homes-told : homesLeft g ks x ≡ true → (w : World) → Says x w → homesKept g ks w ≡ true
     unfolding homesLeft
+    homes-told q w S =
+        let r : ifAllRun g (λ (n : ℕ). spares g (done g writesHome) n) ks x ≡ true = q in
+        sym (homes-are ks w) ∙ sym (all-says (λ (n : ℕ). spares g (done g writesHome) n) ks x w S) ∙ r
+
+    pack-left : homesLeft g ks x ≡ true → AllSound g (x .cells) → AllSound g (linkedTo g ks x .cells)
     pack-left q S =
         by-kept (x .held) _
         (λ h e.
         subst (AllSound g) (sym (cells-left h e))
-        (soundness-lasts g .pack ks (worldBy x h) (in-bytes h e)
-        (sym (homes-are ks (worldBy x h)) ∙ sym (all-says (λ (n : ℕ). spares g (done g writesHome) n) ks x (worldBy x h) (record { held = e; same = refl })) ∙ q) S))
+        (soundness-lasts g .pack ks (worldBy x h) (in-bytes h e) (homes-told q (worldBy x h) (record { held = e; same = refl })) S))
         (λ e. subst (AllSound g) (sym (left-wrong g ks x e .2)) S)
 
 -- ---- all of it
