@@ -1,5 +1,5 @@
 -- Cutting, confinement, demand 3 and soundness, of the calls on lent bytes: by what the bytes say. If they say a held state, the call is the model's
--- (`Says`), of which each was proved; if they say none, it refuses and changes nothing.
+-- (`Says`), of which each was proved; if they say none, it refuses and changes nothing. What a host brings between calls leaves the cells as they are.
 use Prim.Native.Nat.{ℕ, _+_, _*_}
 use mathlib.Core.Path.{_≡_, refl, sym, ap, _∙_, subst}
 use mathlib.Core.Bool.{Bool, true}
@@ -7,13 +7,14 @@ use mathlib.Core.List.{List, [], _∷_}
 use native.Mathlib.Omega.{arith}
 use lib.ListN.{length, getD}
 use Rattle.cells.specs.Cells.{both, trackCells}
+use Rattle.cells.proofs.Tests.{first-of, second-of}
 use Rattle.words.specs.Words.{tested, stored, statusFor}
 use Rattle.areas.specs.declared.{Area.Area}
 use Rattle.pack.specs.declared.{Shape.Shape}
 use Rattle.held.specs.declared.{Held.Held, Kept.Kept}
 use Rattle.held.specs.declared.Kept.the-variants.{Holds, Wrong}
 use Rattle.held.specs.Held.{encoded, kept, rested}
-use Rattle.held.proofs.Inverse.{length-encoded, kept-in-range}
+use Rattle.held.proofs.Inverse.{kept-encoded, length-encoded, kept-in-range}
 use Rattle.channel.specs.Channel.{World, world}
 use Rattle.turn.specs.Turn.{withSense}
 use Rattle.chain.specs.Step.{next, run}
@@ -21,19 +22,19 @@ use Rattle.host.specs.declared.{Answer.Answer}
 use Rattle.host.specs.declared.Answer.the-variants.{ChainEnded, AllowanceUsed, BadStorage, BadPack, BadHeld, BadStart, NoChain, ChainGoing}
 use Rattle.host.specs.Host.{Hears, guardOf, ifPasses, answerNo, wrongHeld, goes}
 use Rattle.host.proofs.Cut.{cut-used, cut-else}
-use Rattle.sound.specs.Sound.{Sound}
 use Rattle.box_export.specs.Calls.{Call, call, callOf}
 use Rattle.box_export.proofs.Laws.{kept-long}
 use Rattle.claim_box.specs.Boxes.{allUnder}
-use Rattle.claim_box.specs.Confined.{spares, CallConfined}
-use Rattle.claim_box.specs.Demand3.{track, Harmed, HostCall, start, go, hear, heard, left, spared, sparedCall, sparedCalls, Agrees, AllAgree, FirstReads, EndsThere, dataCheck, Demand3}
+use Rattle.claim_box.specs.Confined.{CallConfined}
+use Rattle.claim_box.specs.Demand3.{Harmed, HostCall, start, go, hear, heard, left, spared, sparedCall, sparedCalls, Agrees, AllAgree, FirstReads, EndsThere, dataCheck, Demand3}
 use Rattle.claim_box.specs.Demand3 as Told
 use Rattle.claim_box.proofs.Confined.{all-confined}
 use Rattle.claim_box.proofs.Demand3 as Proved
-use Rattle.claim_sound.specs.Soundness.{InBytes, writesHome, done, knownCall, knownCalls, AllSound, homeKept, homesKept}
+use Rattle.claim_sound.specs.Soundness.{InBytes, knownCall, knownCalls, Known, homeKept}
 use Rattle.claim_sound.proofs.Soundness.{soundness-lasts}
+use Rattle.claim_sound.proofs.Soundness as Lasting
 use Rattle.claim_sound.proofs.Bytes.{under-bytes}
-use Rattle.claim_host.specs.Linked.{link, links, linkedTo, ifHeld, worldBy, ifRuns, ifRun, ifAllRun, used, LinkCut, LinkConfined, LinkAgrees, AllLinksAgree, none, more, sparedLinks, LinkFirst, LinkEnds, withCells, LinkDemand3, LentBytes, knownBy, knownLink, knownLinks, homesLeft, Linked}
+use Rattle.claim_host.specs.Linked.{link, links, linkedTo, ifHeld, worldBy, ifRuns, ifRun, ifAllRun, used, LinkCut, LinkConfined, LinkAgrees, AllLinksAgree, none, more, sparedLinks, LinkFirst, LinkEnds, withCells, LinkDemand3, Deed, calls, brings, deed, deeds, LentBytes, broughtBytes, knownBy, knownDeed, knownDeeds, homeLeft, homesLeft, Linked}
 use Rattle.claim_host.proofs.Says.{by-kept, refused, Says, link-holds, link-wrong, link-says, left-says, left-wrong}
 
 -- ---- answers by their numbers
@@ -153,34 +154,12 @@ module _ (g : Shape) where
         ap (λ (b : Bool). both b (ifAllRun g f ks (link g k x))) (ran-says k x w s)
         ∙ ap (both (ranIn k w)) (all-says ks (link g k x) (hear g k w .left) (left-says g (k ∷ []) x w s))
 
-  known-says : (m : ℕ) (ks : List HostCall) (x : Call) (w : World) → Says x w → (b : Bool) → knownLinks g m ks x b ≡ knownCalls g m ks w b
-  unfolding knownLinks knownLink knownBy knownCalls linkedTo left
-  known-says m [] x w s b = refl
-  known-says m (k ∷ ks) x w s b =
-      ap (knownLinks g m ks (link g k x))
-      (ap (λ (y : Kept). knownBy y (λ (h : Held). knownCall g m k (worldBy x h) b) b) (s .held) ∙ ap (λ (v : World). knownCall g m k v b) (s .same))
-      ∙ known-says m ks (link g k x) (hear g k w .left) (left-says g (k ∷ []) x w s) (knownCall g m k w b)
-
-  -- bytes that say nothing: what was known stays
-  known-wrong : (m : ℕ) (ks : List HostCall) (x : Call) → kept (x .held) ≡ Wrong → (b : Bool) → knownLinks g m ks x b ≡ b
-  unfolding knownLinks knownLink knownBy
-  known-wrong m [] x e b = refl
-  known-wrong m (k ∷ ks) x e b =
-      ap (knownLinks g m ks (link g k x)) (ap (λ (y : Kept). knownBy y (λ (h : Held). knownCall g m k (worldBy x h) b) b) e)
-      ∙ ap (λ (y : Call). knownLinks g m ks y b) (link-wrong g k x e) ∙ known-wrong m ks (refused g x) e b
-
-  -- the two tests, as the model has them
+  -- as the model has it
   spared-are : (n : ℕ) (x : Area) (ks : List HostCall) (w : World) → allRan (spared g n x) ks w ≡ sparedCalls g n x ks w
   unfolding sparedCalls sparedCall
   spared-are n x [] w = refl
   spared-are n x (start ∷ ks) w = spared-are n x ks (hear g start w .left)
   spared-are n x (go k ∷ ks) w = ap (both (ifPasses (guardOf g w) (spared g n x k w))) (spared-are n x ks (hear g (go k) w .left))
-
-  homes-are : (ks : List HostCall) (w : World) → allRan (λ (n : ℕ). spares g (done g writesHome) n) ks w ≡ homesKept g ks w
-  unfolding homesKept homeKept
-  homes-are [] w = refl
-  homes-are (start ∷ ks) w = homes-are ks (hear g start w .left)
-  homes-are (go k ∷ ks) w = ap (both (ifPasses (guardOf g w) (spares g (done g writesHome) k w))) (homes-are ks (hear g (go k) w .left))
 
   -- ---- demand 3
 
@@ -293,47 +272,98 @@ module _ (g : Shape) where
           (λ q allowance k f. all-ends (y .answer) (y .held) (y .storage) ks q allowance k f);
     }
 
-  -- ---- soundness
+  -- ---- soundness: by one deed after another
 
-  module _ (ks : List HostCall) (x : Call) (b : LentBytes x) where
-    in-bytes : (h : Held) → kept (x .held) ≡ Holds h → InBytes (worldBy x h)
-    in-bytes h e =
+  -- as far as it is asked of what is lent: storage is bytes, and so is sense, if the bytes say a held state
+  record Bytes (x : Call) : Type 0 where
+    storage : allUnder 256 (x .storage) ≡ true
+    said : (h : Held) → kept (x .held) ≡ Holds h → InBytes (worldBy x h)
+
+  lent-bytes : (x : Call) → LentBytes x → Bytes x
+  lent-bytes x b = record {
+    storage = b .storage;
+    said = λ h e.
         let r = kept-in-range (x .held) h (under-bytes (x .held) (b .held)) e in
-        record { storage = b .storage; byte0 = r .byte0; byte1 = r .byte1 }
+        record { storage = b .storage; byte0 = r .byte0; byte1 = r .byte1 };
+  }
 
-    -- what the model's calls leave
-    storage-left : (h : Held) → kept (x .held) ≡ Holds h → linkedTo g ks x .storage ≡ left g ks (worldBy x h) .storage
-    storage-left h e = ap (λ (w : World). w .storage) (left-says g ks x (worldBy x h) (record { held = e; same = refl }) .same)
+  -- what a call leaves of what the bytes say
+  heard-bytes : (y : Hears) → InBytes (y .left) → Bytes (callOf y)
+  unfolding callOf
+  heard-bytes y b = record {
+    storage = b .storage;
+    said = λ h e. subst (λ (k : Held). InBytes (world k (y .left .storage) (y .left .cells))) (held-is _ _ (sym (kept-encoded (y .left .held)) ∙ e)) b;
+  }
 
-    cells-left : (h : Held) → kept (x .held) ≡ Holds h → linkedTo g ks x .cells ≡ left g ks (worldBy x h) .cells
-    cells-left h e = ap (λ (w : World). w .cells) (left-says g ks x (worldBy x h) (record { held = e; same = refl }) .same)
+  -- .. and where they say nothing
+  refused-bytes : (x : Call) → Bytes x → Bytes (refused g x)
+  refused-bytes x b = record { storage = b .storage; said = λ h e. b .said h e }
 
-    bytes-left : allUnder 256 (linkedTo g ks x .storage) ≡ true
-    bytes-left =
-        by-kept (x .held) _ (λ h e. ap (allUnder 256) (storage-left h e) ∙ soundness-lasts g .bytes-calls ks (worldBy x h) (in-bytes h e) .storage)
-        (λ e. ap (allUnder 256) (left-wrong g ks x e .1) ∙ b .storage)
+  module _ (x : Call) (b : Bytes x) where
+    call-bytes : (k : HostCall) → Bytes (link g k x)
+    unfolding left
+    call-bytes k =
+        by-kept (x .held) _
+        (λ h e. subst Bytes (sym (link-holds g k x h e)) (heard-bytes _ (soundness-lasts g .bytes-calls (k ∷ []) (worldBy x h) (b .said h e))))
+        (λ e. subst Bytes (sym (link-wrong g k x e)) (refused-bytes x b))
 
-    track-left : (m : ℕ) (y : Bool) → (y ≡ true → Sound (track (x .cells) m)) → knownLinks g m ks x y ≡ true → Sound (track (linkedTo g ks x .cells) m)
-    track-left m y S q =
+    call-known : (m : ℕ) (k : HostCall) (y : Bool) → Known m (x .cells) y → Known m (link g k x .cells) (knownDeed g m (calls k) x y)
+    unfolding knownDeed knownBy callOf left knownCalls
+    call-known m k y S =
+        let f : Held → Bool = λ (h : Held). knownCall g m k (worldBy x h) y in
         by-kept (x .held) _
         (λ h e.
-        subst (λ (c : List ℕ). Sound (track c m)) (sym (cells-left h e))
-        (soundness-lasts g .calls m ks (worldBy x h) (in-bytes h e) y S (sym (known-says m ks x (worldBy x h) (record { held = e; same = refl }) y) ∙ q)))
-        (λ e. subst (λ (c : List ℕ). Sound (track c m)) (sym (left-wrong g ks x e .2)) (S (sym (known-wrong m ks x e y) ∙ q)))
+        subst (λ (z : Call). Known m (z .cells) (knownBy (kept (x .held)) f y)) (sym (link-holds g k x h e))
+        (subst (λ (z : Kept). Known m (hear g k (worldBy x h) .left .cells) (knownBy z f y)) (sym e)
+        (soundness-lasts g .calls m (k ∷ []) (worldBy x h) (b .said h e) y S)))
+        (λ e.
+        subst (λ (z : Call). Known m (z .cells) (knownBy (kept (x .held)) f y)) (sym (link-wrong g k x e))
+        (subst (λ (z : Kept). Known m (x .cells) (knownBy z f y)) (sym e) S))
 
-    homes-told : homesLeft g ks x ≡ true → (w : World) → Says x w → homesKept g ks w ≡ true
-    unfolding homesLeft
-    homes-told q w S =
-        let r : ifAllRun g (λ (n : ℕ). spares g (done g writesHome) n) ks x ≡ true = q in
-        sym (homes-are ks w) ∙ sym (all-says (λ (n : ℕ). spares g (done g writesHome) n) ks x w S) ∙ r
+  -- what is brought
+  module _ (v s : List ℕ) (ds : List Deed) (q : broughtBytes (brings v s ∷ ds) ≡ true) where
+    brought : (x : Call) → Bytes (deed g (brings v s) x)
+    unfolding deed broughtBytes
+    brought x =
+        let e : both (allUnder 256 v) (allUnder 256 s) ≡ true = first-of (both (allUnder 256 v) (allUnder 256 s)) (broughtBytes ds) q in
+        lent-bytes _ (record { held = first-of (allUnder 256 v) _ e; storage = second-of (allUnder 256 v) _ e })
 
-    pack-left : homesLeft g ks x ≡ true → AllSound g (x .cells) → AllSound g (linkedTo g ks x .cells)
-    pack-left q S =
-        by-kept (x .held) _
-        (λ h e.
-        subst (AllSound g) (sym (cells-left h e))
-        (soundness-lasts g .pack ks (worldBy x h) (in-bytes h e) (homes-told q (worldBy x h) (record { held = e; same = refl })) S))
-        (λ e. subst (AllSound g) (sym (left-wrong g ks x e .2)) S)
+    brought-later : broughtBytes ds ≡ true
+    unfolding broughtBytes
+    brought-later = second-of (both (allUnder 256 v) (allUnder 256 s)) (broughtBytes ds) q
+
+  deeds-bytes : (ds : List Deed) (x : Call) → Bytes x → broughtBytes ds ≡ true → Bytes (deeds g ds x)
+  unfolding deeds deed broughtBytes
+  deeds-bytes [] x b q = b
+  deeds-bytes (calls k ∷ ds) x b q = deeds-bytes ds (link g k x) (call-bytes x b k) q
+  deeds-bytes (brings v s ∷ ds) x b q = deeds-bytes ds _ (brought v s ds q x) (brought-later v s ds q)
+
+  deeds-known : (m : ℕ) (ds : List Deed) (x : Call) → Bytes x → broughtBytes ds ≡ true → (y : Bool) → Known m (x .cells) y
+      → Known m (deeds g ds x .cells) (knownDeeds g m ds x y)
+  unfolding deeds deed broughtBytes knownDeeds knownDeed
+  deeds-known m [] x b q y S = S
+  deeds-known m (calls k ∷ ds) x b q y S = deeds-known m ds (link g k x) (call-bytes x b k) q _ (call-known x b m k y S)
+  deeds-known m (brings v s ∷ ds) x b q y S = deeds-known m ds _ (brought v s ds q x) (brought-later v s ds q) y S
+
+  -- ---- where no Write HA was done, what was known is known
+
+  deed-keeps : (m : ℕ) (d : Deed) (x : Call) → homeLeft g d x ≡ true → knownDeed g m d x true ≡ true
+  unfolding knownDeed knownBy homeLeft ifHeld
+  deed-keeps m (calls k) x q =
+      let f : Held → Bool = λ (h : Held). knownCall g m k (worldBy x h) true in
+      let r : ifHeld (kept (x .held)) (λ (h : Held). homeKept g k (worldBy x h)) ≡ true = q in
+      by-kept (x .held) _
+      (λ h e.
+      ap (λ (z : Kept). knownBy z f true) e
+      ∙ Lasting.call-keeps g m k (worldBy x h) (sym (ap (λ (z : Kept). ifHeld z (λ (i : Held). homeKept g k (worldBy x i))) e) ∙ r))
+      (λ e. ap (λ (z : Kept). knownBy z f true) e)
+  deed-keeps m (brings v s) x q = refl
+
+  deeds-keep : (m : ℕ) (ds : List Deed) (x : Call) → homesLeft g ds x ≡ true → knownDeeds g m ds x true ≡ true
+  unfolding homesLeft knownDeeds
+  deeds-keep m [] x q = refl
+  deeds-keep m (d ∷ ds) x q =
+      ap (knownDeeds g m ds (deed g d x)) (deed-keeps m d x (first-of (homeLeft g d x) _ q)) ∙ deeds-keep m ds (deed g d x) (second-of (homeLeft g d x) _ q)
 
 -- ---- all of it
 
@@ -342,5 +372,9 @@ linked g = record {
   cut = cuts g;
   confined = confined g;
   demand-3 = link-demand-3 g;
-  sound = λ ks x. record { lent-storage = bytes-left g ks x; track-sound = track-left g ks x; pack-sound = pack-left g ks x };
+  sound = λ ds x. record {
+    lent-storage = λ b q. deeds-bytes g ds x (lent-bytes g x b) q .storage;
+    track-sound = λ b q m y S. deeds-known g m ds x (lent-bytes g x b) q y S;
+    pack-sound = λ b q e S m h. deeds-known g m ds x (lent-bytes g x b) q true (λ _. S m h) (deeds-keep g m ds x e);
+  };
 }

@@ -18,12 +18,11 @@ use Rattle.channel.specs.Channel.{World, world}
 use Rattle.chain.specs.Step.{next, run}
 use Rattle.host.specs.declared.{Answer.Answer}
 use Rattle.host.specs.Host.{guardOf, ifPasses, answerNo}
-use Rattle.sound.specs.Sound.{Sound}
 use Rattle.box_export.specs.Calls.{Call, startCall, goCall}
 use Rattle.claim_box.specs.Boxes.{allUnder}
-use Rattle.claim_box.specs.Confined.{among, spares, sparesCell, sparesByte, sparesTrack}
-use Rattle.claim_box.specs.Demand3.{track, Harmed, HostCall, start, go, spared, FirstReads, dataCheck}
-use Rattle.claim_sound.specs.Soundness.{bytes, writesHome, done, knownCall, AllSound}
+use Rattle.claim_box.specs.Confined.{among, sparesCell, sparesByte, sparesTrack}
+use Rattle.claim_box.specs.Demand3.{Harmed, HostCall, start, go, spared, FirstReads, dataCheck}
+use Rattle.claim_sound.specs.Soundness.{bytes, knownCall, Known, AllSound, homeKept}
 
 -- ---- the calls
 
@@ -137,34 +136,58 @@ pub record LinkDemand3 (g : Shape) (n : ℕ) (x : Area) (c c′ : List ℕ) : Ty
       → LinkEnds x (run g k (worldBy (linkedTo g ks y) (f .said))) (linkedTo g ks (withCells y c′))
       (link g (go allowance) (linkedTo g ks (withCells y c′)))
 
--- ---- soundness
+-- ---- soundness, from chain to chain
 
--- what a host can lend: bytes
+-- what a host does, one after another: it calls, or it brings other held bytes and other storage, as for another chain; the cells stay
+pub data Deed : Type 0 where
+  calls : HostCall → Deed
+  brings : List ℕ → List ℕ → Deed
+
+unfoldable pub deed : Shape → Deed → Call → Call
+deed g (calls k) x = link g k x
+deed g (brings v s) x = record { answer = x .answer; held = v; storage = s; cells = x .cells }
+
+unfoldable pub deeds : Shape → List Deed → Call → Call
+deeds g [] x = x
+deeds g (d ∷ ds) x = deeds g ds (deed g d x)
+
+-- what it lends, and what it brings, are bytes
 pub record LentBytes (x : Call) : Type 0 where
   pub held : allUnder bytes (x .held) ≡ true
   pub storage : allUnder bytes (x .storage) ≡ true
 
--- whether track m is known to be soundly written after a call, and after calls; nothing runs if the bytes encode no held state
+unfoldable pub broughtBytes : List Deed → Bool
+broughtBytes [] = true
+broughtBytes (calls k ∷ ds) = broughtBytes ds
+broughtBytes (brings v s ∷ ds) = both (both (allUnder bytes v) (allUnder bytes s)) (broughtBytes ds)
+
+-- whether track m is known to be soundly written after it; nothing runs if the bytes encode no held state
 unfoldable pub knownBy : Kept → (Held → Bool) → Bool → Bool
 knownBy (Kept.Holds h) f b = f h
 knownBy Kept.Wrong f b = b
 
-unfoldable pub knownLink : Shape → ℕ → HostCall → Call → Bool → Bool
-knownLink g m k x b = knownBy (kept (x .held)) (λ (h : Held). knownCall g m k (worldBy x h) b) b
+unfoldable pub knownDeed : Shape → ℕ → Deed → Call → Bool → Bool
+knownDeed g m (calls k) x b = knownBy (kept (x .held)) (λ (h : Held). knownCall g m k (worldBy x h) b) b
+knownDeed g m (brings v s) x b = b
 
-unfoldable pub knownLinks : Shape → ℕ → List HostCall → Call → Bool → Bool
-knownLinks g m [] x b = b
-knownLinks g m (k ∷ ks) x b = knownLinks g m ks (link g k x) (knownLink g m k x b)
+unfoldable pub knownDeeds : Shape → ℕ → List Deed → Call → Bool → Bool
+knownDeeds g m [] x b = b
+knownDeeds g m (d ∷ ds) x b = knownDeeds g m ds (deed g d x) (knownDeed g m d x b)
 
 -- no Write HA was done in these calls
-unfoldable pub homesLeft : Shape → List HostCall → Call → Bool
-homesLeft g ks x = ifAllRun g (λ (n : ℕ). spares g (done g writesHome) n) ks x
+unfoldable pub homeLeft : Shape → Deed → Call → Bool
+homeLeft g (calls k) x = ifHeld (kept (x .held)) (λ (h : Held). homeKept g k (worldBy x h))
+homeLeft g (brings v s) x = true
 
-pub record LinkSound (g : Shape) (ks : List HostCall) (x : Call) : Type 0 where
-  pub lent-storage : LentBytes x → allUnder bytes (linkedTo g ks x .storage) ≡ true
-  pub track-sound : LentBytes x → (m : ℕ) (b : Bool) → (b ≡ true → Sound (track (x .cells) m)) → knownLinks g m ks x b ≡ true
-      → Sound (track (linkedTo g ks x .cells) m)
-  pub pack-sound : LentBytes x → homesLeft g ks x ≡ true → AllSound g (x .cells) → AllSound g (linkedTo g ks x .cells)
+unfoldable pub homesLeft : Shape → List Deed → Call → Bool
+homesLeft g [] x = true
+homesLeft g (d ∷ ds) x = both (homeLeft g d x) (homesLeft g ds (deed g d x))
+
+pub record LinkSound (g : Shape) (ds : List Deed) (x : Call) : Type 0 where
+  pub lent-storage : LentBytes x → broughtBytes ds ≡ true → allUnder bytes (deeds g ds x .storage) ≡ true
+  pub track-sound : LentBytes x → broughtBytes ds ≡ true → (m : ℕ) (b : Bool) → Known m (x .cells) b
+      → Known m (deeds g ds x .cells) (knownDeeds g m ds x b)
+  pub pack-sound : LentBytes x → broughtBytes ds ≡ true → homesLeft g ds x ≡ true → AllSound g (x .cells) → AllSound g (deeds g ds x .cells)
 
 -- ---- all of it
 
@@ -172,4 +195,4 @@ pub record Linked (g : Shape) : Type 0 where
   pub cut : (a b : ℕ) (x : Call) → LinkCut g a b x
   pub confined : (n : ℕ) (x : Call) → LinkConfined g n x
   pub demand-3 : (n s : ℕ) (x : Area) (c c′ : List ℕ) → Harmed n s x c c′ → LinkDemand3 g n x c c′
-  pub sound : (ks : List HostCall) (x : Call) → LinkSound g ks x
+  pub sound : (ds : List Deed) (x : Call) → LinkSound g ds x

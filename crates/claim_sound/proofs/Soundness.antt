@@ -230,7 +230,7 @@ module _ (g : Shape) where
   go-keeps m n w Passes e = run-keeps m n w e
   go-keeps m n w (Answers a) e = refl
 
-  call-keeps : (m : ℕ) (k : HostCall) (w : World) → homeKept g k w ≡ true → knownCall g m k w true ≡ true
+  pub call-keeps : (m : ℕ) (k : HostCall) (w : World) → homeKept g k w ≡ true → knownCall g m k w true ≡ true
   unfolding homeKept knownCall
   call-keeps m start w e = refl
   call-keeps m (go n) w e = go-keeps m n w (guardOf g w) e
