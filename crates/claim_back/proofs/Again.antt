@@ -7,10 +7,11 @@ use mathlib.Core.List.{List}
 use native.Mathlib.Omega.{arith}
 use lib.ListN.{length, getD, take, length-take}
 use lib.Seq.{getD-take}
+use lib.Dec.{lit<}
 use borrow.Author.Tests.{not-true}
 use Rattle.cells.specs.Cells.{pick, both, either, trackCells, marks}
 use Rattle.words.specs.declared.{Word.Word, Tested.Tested}
-use Rattle.words.specs.Words.{stored}
+use Rattle.words.specs.Words.{stored, statusFor, statusBytes}
 use Rattle.areas.specs.Areas.{homeArea}
 use Rattle.hunt.specs.Hunt.{countFirst}
 use Rattle.pack.specs.declared.{Shape.Shape}
@@ -18,15 +19,16 @@ use Rattle.pack.specs.Pack.{startOf, trackAt}
 use Rattle.held.specs.declared.{Position.Position, Orders.Orders}
 use Rattle.table.specs.declared.{Names.Names, Write.Write}
 use Rattle.table.specs.Table.{ruleOf}
+use Rattle.turn.specs.declared.{Ending.Ending}
 use Rattle.turn.specs.Turn.{Tracks, Moves, given, Turn, reportOf, lay}
 use Rattle.command.specs.Command.{marksOf}
-use Rattle.channel.specs.Channel.{fetched, placed, goesOn, statusAfter, withStatus, storageAfter, World}
+use Rattle.channel.specs.Channel.{fetched, placed, unitStatus, goesOn, statusAfter, withStatus, storageAfter, World}
 use Rattle.chain.specs.Step.{under, trackUnder, tracksOf, turnOf, settled, obeyed, stepBy, step}
 use Rattle.claim_track.specs.Lasting.{ReadsAs}
 use Rattle.claim_box.specs.Confined.{inStatus, trackOn}
 use Rattle.claim_box.proofs.Outside.{overlay-inside}
 use Rattle.claim_box.proofs.NextWord.{stored-kept, placed-long}
-use Rattle.claim_back.specs.Back.{Work, OnHome, OnRecord, OnNothing, takenBy, Sent, namesKey, passesKey, countsThere, Rereads, namesPassed, sentAt, askedBy, clear, Back}
+use Rattle.claim_back.specs.Back.{Work, OnHome, OnRecord, OnNothing, takenBy, Sent, namesKey, passesKey, countsThere, Rereads, namesPassed, sentAt, askedBy, clear, noData, Back}
 use Rattle.claim_back.proofs.Plans.{NamesCount, record-plan, record-named, home-plan, home-named}
 use Rattle.claim_back.proofs.Given.{Holds, Gave, record-gave, home-gave}
 use Rattle.claim_back.proofs.Left.{area-inside, track-left, LeftIn, left-in}
@@ -101,6 +103,13 @@ module _ (g : Shape) (w : World) (d : Word) (k : Write) (u : World) (e : Word) (
   room : e .address + e .count ≤ length (u .storage)
   room = area-inside g u (R .legal) e (R .word)
 
+  -- storage with the bytes that the read gave
+  abbrev put : List ℕ
+  put = placed (u .storage) e (given (x .moves))
+
+  put-reaches : 72 ≤ length put
+  put-reaches = omega (arith, placed-long (u .storage) e (given (x .moves)) room, R .legal .room)
+
   places : (i : ℕ) → i < min (e .count) (length v) → clear g u e i ≡ true → getD (step g u .storage) (e .address + i) 0 ≡ getD v i 0
   unfolding step stepBy obeyed settled storageAfter withStatus given
   places i h c =
@@ -108,16 +117,25 @@ module _ (g : Shape) (w : World) (d : Word) (k : Write) (u : World) (e : Word) (
       ∙ ap (λ (m : Moves). getD (placed (u .storage) e (given m)) (e .address + i) 0) (gave-again g w d k u e counted R knows .moves)
       ∙ placed-at (u .storage) e v room i h
     where
-      st′ : List ℕ
-      st′ = placed (u .storage) e (given (x .moves))
-
       go : (b : Bool) → either b (not (inStatus (e .address + i))) ≡ true
-          → getD (pick b st′ (stored st′ (statusAfter (u .held .channel) e (reportOf x)))) (e .address + i) 0 ≡ getD st′ (e .address + i) 0
+          → getD (pick b put (stored put (statusAfter (u .held .channel) e (reportOf x)))) (e .address + i) 0 ≡ getD put (e .address + i) 0
       go true q = refl
-      go false q =
-          stored-kept st′ _ (e .address + i) (omega (arith, placed-long (u .storage) e (given (x .moves)) room, R .legal .room)) (not-true _ q)
+      go false q = stored-kept put _ (e .address + i) (omega (arith, put-reaches)) (not-true _ q)
+
+  -- the status word is stored last, so its unit status stands there
+  shown : goesOn e (reportOf x) ≡ false → getD (step g u .storage) 68 0 ≡ pick (noData e (sentAt g w d k)) 0x0D 0x0C
+  unfolding step stepBy obeyed settled storageAfter withStatus statusAfter statusFor stored reportOf unitStatus
+  shown q =
+      ap (λ (y : Tested). getD (stepBy g u y .storage) 68 0) (R .word)
+      ∙ ap (λ (b : Bool). getD (pick b put (stored put (statusAfter (u .held .channel) e (reportOf x)))) 68 0) q
+      ∙ overlay-inside put 64 (statusBytes (statusAfter (u .held .channel) e (reportOf x))) 4 (omega (arith, put-reaches)) (lit< tt)
+      ∙ ap unitStatus (gave-again g w d k u e counted R knows .ending) ∙ by (noData e (sentAt g w d k))
+    where
+      by : (b : Bool) → unitStatus (pick b Ending.Exception Ending.Normal) ≡ pick b 0x0D 0x0C
+      by true = refl
+      by false = refl
 
   pub back : Back g u e (sentAt g w d k) (askedBy e counted (sentAt g w d k))
   back =
       let G = gave-again g w d k u e counted R knows in
-      record { ending = G .ending; moves = G .moves; places = places }
+      record { ending = G .ending; moves = G .moves; shown = shown; places = places }

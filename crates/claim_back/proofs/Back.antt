@@ -1,21 +1,25 @@
 -- What was written reads back: at the read's word, and through the call that runs it. Why: a go runs the words before it, then the read, then words that may
--- not change the byte.
+-- not change the byte; none, if the read ended in Data Check.
 use Prim.Native.Nat.{ℕ, suc, _+_, _-_, _<_}
 use mathlib.Core.Path.{_≡_, refl, sym, ap, _∙_, subst}
-use mathlib.Core.Bool.{Bool, true, false}
+use mathlib.Core.Bool.{Bool, true, false, false≢true}
 use native.Mathlib.Omega.{arith}
 use lib.ListN.{getD}
 use Rattle.cells.specs.Cells.{pick}
+use Rattle.areas.specs.declared.{Area.Area}
 use Rattle.pack.specs.declared.{Shape.Shape}
+use Rattle.held.specs.declared.{Held.Held}
+use Rattle.held.specs.Held.{fresh, freshChannel, rested}
 use Rattle.channel.specs.Channel.{World}
 use Rattle.chain.specs.Step.{step, run, Legal}
 use Rattle.chain.proofs.Legal.{step-legal}
 use Rattle.chain.proofs.Runs.{run-on, run-idle, run-split, run-legal}
-use Rattle.host.specs.declared.{Guarded.Guarded}
+use Rattle.host.specs.declared.{Answer.Answer, Guarded.Guarded}
 use Rattle.host.specs.declared.Answer.the-variants.{NoChain}
-use Rattle.host.specs.Host.{hears, guardOf, guards, ran, goes}
+use Rattle.host.specs.Host.{Hears, hears, guardOf, guards, ran, goes}
 use Rattle.host.proofs.Laws.{passes-legal}
 use Rattle.claim_box.specs.Confined.{sparesByte}
+use Rattle.claim_box.specs.Demand3.{DataChecked}
 use Rattle.claim_box.proofs.Runs.{run-confined}
 use Rattle.claim_sound.specs.Soundness.{sparesDone}
 use Rattle.claim_back.specs.Back.{Since, now, words, WrittenReadsBack}
@@ -53,6 +57,25 @@ module _ (g : Shape) (v : World) (n : ℕ) (p : guardOf g v ≡ Guarded.Passes) 
         ap (λ (y : World). getD (y .storage) i 0) (go-runs ∙ runs-on)
         ∙ run-confined g (n - j - 1) (step g (run g j v)) after-legal .storage i q
 
+-- a word that ends in Data Check ends its chain, so the go leaves what that word left, and the host hears that the chain ended
+module _ (g : Shape) (v : World) (n : ℕ) (p : guardOf g v ≡ Guarded.Passes) (j : ℕ) (h : j < n) (going : run g j v .held .channel .going ≡ true) (x : Area)
+    (D : DataChecked x (run g j v) (step g (run g j v))) where
+  over : step g (run g j v) .held .channel .going ≡ false
+  unfolding rested fresh freshChannel
+  over = ap (λ (y : Held). y .channel .going) (D .held)
+
+  -- a chain of which a word ran was going
+  was-going : (b : Bool) → v .held .channel .going ≡ b → v .held .channel .going ≡ true
+  was-going true q = q
+  was-going false q = absurd (false≢true (sym q ∙ ap (λ (y : World). y .held .channel .going) (sym (run-idle g j v q)) ∙ going))
+
+  ends-there : goes g n v ≡ hears Answer.ChainEnded (step g (run g j v))
+  unfolding goes guards ran
+  ends-there = rw (runs-on g v n p j h going ∙ run-idle g (n - j - 1) (step g (run g j v)) over, over, p, was-going _ refl)
+
+  heard-there : (goes g n v .answer ≡ Answer.ChainEnded) × DataChecked x (run g j v) (goes g n v .left)
+  heard-there = (ap (λ (y : Hears). y .answer) ends-there, rw ends-there D)
+
 pub written-reads-back : (g : Shape) → WrittenReadsBack g
 written-reads-back g = record {
   kept = track-kept g;
@@ -62,4 +85,5 @@ written-reads-back g = record {
       stands g v n p j h going (e .address + i) spares ∙ back g w d k (run g j v) e c R knows .places i less clear;
   stays = λ w d u K W s. stays g w d K W u s;
   lost = λ w d u e c K R names. key-lost g w d K u e c R names;
+  lost-go = λ w d v n j e c K p h going R names. heard-there g v n p j h going _ (key-lost g w d K (run g j v) e c R names);
 }

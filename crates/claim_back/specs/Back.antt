@@ -10,8 +10,9 @@ use lib.ListN.{length, getD}
 use lib.Dec.{ltb, eqb}
 use Rattle.cells.specs.Cells.{pick, both, either, be16, part, padded, trackCells, marks}
 use Rattle.words.specs.declared.{Word.Word, Tested.Tested}
-use Rattle.areas.specs.declared.{Part.Part, Counts.Counts}
-use Rattle.areas.specs.Areas.{homeBytes, countsAt, keyArea, readable, rowOf}
+use Rattle.words.specs.Words.{statusAt}
+use Rattle.areas.specs.declared.{Counts.Counts}
+use Rattle.areas.specs.Areas.{homeBytes, countsAt, keyArea, readable}
 use Rattle.hunt.specs.declared.{Spot.Spot, Next.Next}
 use Rattle.hunt.specs.Hunt.{countFirst, nextRecord}
 use Rattle.recording.specs.Recording.{countSent}
@@ -19,17 +20,18 @@ use Rattle.pack.specs.declared.{Shape.Shape}
 use Rattle.pack.specs.Pack.{trackAt}
 use Rattle.held.specs.declared.{Selection.Selection, Position.Position, Orders.Orders, Held.Held}
 use Rattle.turn.specs.declared.{Ending.Ending}
-use Rattle.turn.specs.Turn.{Gives, given, reportOf, isCheck}
+use Rattle.turn.specs.Turn.{Gives, reportOf, isCheck}
 use Rattle.table.specs.declared.{Aim.Aim, Names.Names, Write.Write, Act.Act}
 use Rattle.table.specs.Table.{ruleOf, servesData, servesKey}
 use Rattle.command.specs.Command.{noCounts, countMoved, keySent}
 use Rattle.channel.specs.Channel.{fetched, goesOn, World, world}
 use Rattle.chain.specs.Step.{trackUnder, next, turnOf, step, run, Legal}
-use Rattle.host.specs.declared.{Guarded.Guarded}
+use Rattle.host.specs.declared.{Answer.Answer, Guarded.Guarded}
 use Rattle.host.specs.Host.{guardOf, ifPasses, starts, goes}
 use Rattle.sound.specs.Sound.{endAt}
 use Rattle.claim_box.specs.Boxes.{allUnder}
 use Rattle.claim_box.specs.Confined.{inStatus, sparesByte, trackOn}
+use Rattle.claim_box.specs.Demand3.{DataChecked}
 use Rattle.claim_sound.specs.Soundness.{bytes, sparesDone}
 
 -- ---- "that record": what a write leaves and a read takes, the home address or a record
@@ -190,11 +192,17 @@ askedBy e counted x = asked (ruleOf (e .code) .names) counted x
 abbrev pub clear : Shape → World → Word → ℕ → Bool
 clear g u e i = either (goesOn e (reportOf (turnOf g u e))) (not (inStatus (e .address + i)))
 
+-- "DL 0 as document 01 says": no data was sent, and the row of the read has Unit Exception for that
+abbrev pub noData : Word → Sent → Bool
+noData e x = both (ruleOf (e .code) .excepts) (eqb (length (x .body)) 0)
+
 -- a read brings back v of what was sent
 pub record Back (g : Shape) (u : World) (e : Word) (x : Sent) (v : List ℕ) : Type 0 where
-  -- no Unit Check; "DL 0 as document 01 says": Unit Exception where the row of the table has it, and no data
-  pub ending : turnOf g u e .ending ≡ pick (both (ruleOf (e .code) .excepts) (eqb (length (x .body)) 0)) Ending.Exception Ending.Normal
+  -- no Unit Check
+  pub ending : turnOf g u e .ending ≡ pick (noData e x) Ending.Exception Ending.Normal
   pub moves : turnOf g u e .moves ≡ Gives v
+  -- what a host sees of its end, if the chain ends there: the unit status, byte 4 of the status word
+  pub shown : goesOn e (reportOf (turnOf g u e)) ≡ false → getD (step g u .storage) (statusAt + 4) 0 ≡ pick (noData e x) 0x0D 0x0C
   -- "as far as its count goes"
   pub places : (i : ℕ) → i < min (e .count) (length v) → clear g u e i ≡ true → getD (step g u .storage) (e .address + i) 0 ≡ getD v i 0
 
@@ -204,11 +212,6 @@ pub record KeyUnreadable (g : Shape) (w : World) : Type 0 where
   pub is : w .held .orders .selection ≡ Selection.On spot
   pub some : 0 < countsThere g w .kl
   pub unreadable : readable (trackUnder g w) (keyArea (countFirst spot) (countsThere g w)) ≡ false
-
--- Data Check, and no byte is given
-pub record KeyLost (g : Shape) (u : World) (e : Word) : Type 0 where
-  pub ending : turnOf g u e .ending ≡ Ending.Check (rowOf Part.Key)
-  pub nothing : given (turnOf g u e .moves) ≡ []
 
 -- ---- all of it
 
@@ -232,5 +235,9 @@ pub record WrittenReadsBack (g : Shape) : Type 0 where
   pub stays : (w : World) (d : Word) (u : World) (K : KeyUnreadable g w) → Wrote g w d (Write.Update false) → Since g (trackOn g w) (step g w) u
       → readable (trackAt (u .cells) (trackOn g w * trackCells)) (keyArea (countFirst (K .spot)) (countsThere g w)) ≡ false
   -- "a read that names it ends in Data Check"
-  pub lost : (w : World) (d : Word) (u : World) (e : Word) (c : Bool) → KeyUnreadable g w → Rereads g w d (Write.Update false) u e c
-      → namesKey (ruleOf (e .code) .names) ≡ true → KeyLost g u e
+  pub lost : (w : World) (d : Word) (u : World) (e : Word) (c : Bool) (K : KeyUnreadable g w) → Rereads g w d (Write.Update false) u e c
+      → namesKey (ruleOf (e .code) .names) ≡ true → DataChecked (keyArea (countFirst (K .spot)) (countsThere g w)) u (step g u)
+  -- .. and where that read is word j + 1 of a go, the host hears that the chain ended there
+  pub lost-go : (w : World) (d : Word) (v : World) (n j : ℕ) (e : Word) (c : Bool) (K : KeyUnreadable g w) → guardOf g v ≡ Guarded.Passes → j < n
+      → run g j v .held .channel .going ≡ true → Rereads g w d (Write.Update false) (run g j v) e c → namesKey (ruleOf (e .code) .names) ≡ true
+      → (goes g n v .answer ≡ Answer.ChainEnded) × DataChecked (keyArea (countFirst (K .spot)) (countsThere g w)) (run g j v) (goes g n v .left)

@@ -54,11 +54,11 @@ module _ (s : Position) (o : Orders) (r : List TrackArea) (d : Word) (p : Part) 
   unfolding goesOn wrongLength lengthCounts movesAny transferOf isCheck endsWell checkTurn reportOf
   fails-ends = both-never (chains d)
 
-  fails-held : heldAfter c d (reportOf failed) ≡ rested (withSense s (dataCheck p))
+  pub fails-held : heldAfter c d (reportOf failed) ≡ rested (withSense s (dataCheck p))
   unfolding heldAfter reportOf checkTurn
   fails-held = second-picked _ _ _ fails-ends ∙ ap (λ (x : Sense). rested (withSense s x)) (part-row p .0)
 
-  fails-storage : (st : List ℕ) → storageAfter c d failed st ≡ stored st (statusFor (c .key) (c .next) 0x0E 0x00 (d .count))
+  pub fails-storage : (st : List ℕ) → storageAfter c d failed st ≡ stored st (statusFor (c .key) (c .next) 0x0E 0x00 (d .count))
   unfolding storageAfter withStatus statusAfter placed given unitStatus wrongLength lengthCounts movesAny bytesMoved wants transferOf isCheck checkTurn reportOf
   fails-storage st =
       let same = ap (overlay st (d .address)) (take-nil (d .count)) ∙ overlay-none st (d .address) in

@@ -26,7 +26,7 @@ use Rattle.box_export.specs.Calls.{Call, call, callOf}
 use Rattle.box_export.proofs.Laws.{kept-long}
 use Rattle.claim_box.specs.Boxes.{allUnder}
 use Rattle.claim_box.specs.Confined.{CallConfined}
-use Rattle.claim_box.specs.Demand3.{Harmed, HostCall, start, go, hear, heard, left, spared, sparedCall, sparedCalls, Agrees, AllAgree, FirstReads, EndsThere, dataCheck, Demand3}
+use Rattle.claim_box.specs.Demand3.{track, Harmed, HostCall, start, go, hear, heard, left, spared, sparedCall, sparedCalls, Agrees, AllAgree, FirstReads, EndsThere, dataCheck, Demand3}
 use Rattle.claim_box.specs.Demand3 as Told
 use Rattle.claim_box.proofs.Confined.{all-confined}
 use Rattle.claim_box.proofs.Demand3 as Proved
@@ -34,6 +34,7 @@ use Rattle.claim_sound.specs.Soundness.{InBytes, knownCall, knownCalls, Known, 
 use Rattle.claim_sound.proofs.Soundness.{soundness-lasts}
 use Rattle.claim_sound.proofs.Soundness as Lasting
 use Rattle.claim_sound.proofs.Bytes.{under-bytes}
+use Rattle.claim_sound.proofs.Tracks.{go-same}
 use Rattle.claim_host.specs.Linked.{link, links, linkedTo, ifHeld, worldBy, ifRuns, ifRun, ifAllRun, used, LinkCut, LinkConfined, LinkAgrees, AllLinksAgree, none, more, sparedLinks, LinkFirst, LinkEnds, withCells, LinkDemand3, Deed, calls, brings, deed, deeds, LentBytes, broughtBytes, knownBy, knownDeed, knownDeeds, homeLeft, homesLeft, Linked}
 use Rattle.claim_host.proofs.Says.{by-kept, refused, Says, link-holds, link-wrong, link-says, left-says, left-wrong}
 
@@ -114,6 +115,7 @@ module _ (g : Shape) where
       on-track = λ m i j q.
           of-call (go n) (λ (y : Call). getD (y .cells) (m * trackCells + i) 0 ≡ getD (x .cells) (m * trackCells + i) 0)
           (λ h e. C h .track m i j (runs-by _ h e q)) refl;
+      undone = λ m q. of-call (go n) (λ (y : Call). track (y .cells) m ≡ track (x .cells) m) (λ h e. go-same g m n (worldBy x h) (runs-by _ h e q)) refl;
       storage = λ i q. of-call (go n) (λ (y : Call). getD (y .storage) i 0 ≡ getD (x .storage) i 0) (λ h e. C h .storage i (runs-by _ h e q)) refl;
       start-cells = of-call start (λ (y : Call). y .cells ≡ x .cells) (λ h e. C h .start-cells) refl;
       start-else = λ q. by-kept (x .held) _

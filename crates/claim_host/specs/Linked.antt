@@ -21,8 +21,8 @@ use Rattle.host.specs.Host.{guardOf, ifPasses, answerNo}
 use Rattle.box_export.specs.Calls.{Call, startCall, goCall}
 use Rattle.claim_box.specs.Boxes.{allUnder}
 use Rattle.claim_box.specs.Confined.{among, sparesCell, sparesByte, sparesTrack}
-use Rattle.claim_box.specs.Demand3.{Harmed, HostCall, start, go, spared, FirstReads, dataCheck}
-use Rattle.claim_sound.specs.Soundness.{bytes, knownCall, Known, AllSound, homeKept}
+use Rattle.claim_box.specs.Demand3.{track, Harmed, HostCall, start, go, spared, FirstReads, dataCheck}
+use Rattle.claim_sound.specs.Soundness.{bytes, sparesDone, knownCall, Known, AllSound, homeKept}
 
 -- ---- the calls
 
@@ -78,6 +78,8 @@ pub record LinkConfined (g : Shape) (n : ℕ) (x : Call) : Type 0 where
   pub cells : (i : ℕ) → ifRuns g x (sparesCell g i n) ≡ true → getD (link g (go n) x .cells) i gap ≡ getD (x .cells) i gap
   pub on-track : (m i : ℕ) → i < trackCells → ifRuns g x (sparesTrack g m n) ≡ true
       → getD (link g (go n) x .cells) (m * trackCells + i) gap ≡ getD (x .cells) (m * trackCells + i) gap
+  -- a track on which no write was done, for those there were ended in Unit Check, is as it was
+  pub undone : (m : ℕ) → ifRuns g x (sparesDone g m n) ≡ true → track (link g (go n) x .cells) m ≡ track (x .cells) m
   pub storage : (i : ℕ) → ifRuns g x (sparesByte g i n) ≡ true → getD (link g (go n) x .storage) i 0 ≡ getD (x .storage) i 0
   pub start-cells : link g start x .cells ≡ x .cells
   pub start-else : (link g start x .answer ≡ answerNo Answer.BadStart → ⊥) → link g start x .storage ≡ x .storage
