@@ -24,22 +24,12 @@ use Rattle.claim_box.proofs.Opened.{track, box}
 use Rattle.claim_box.proofs.Reading.{reading}
 use Rattle.claim_back.specs.Found.{idAt, IdsDiffer, searchId, Seeks}
 
-abbrev chain : World
-chain = startedOn stocked (chained 0x12 8) 3
-
--- the record with an R
-abbrev named : ℕ → Spot
-named zero = R0
-named (suc zero) = Marker 32
-named (suc (suc zero)) = Marker 53
-named (suc (suc (suc n))) = Marker 75
-
 -- the cells that hold a marker
-cellsWith : List Bool → ℕ → List ℕ
+unfoldable pub cellsWith : List Bool → ℕ → List ℕ
 cellsWith [] i = []
 cellsWith (b ∷ m) i = pick b (i ∷ cellsWith m (suc i)) (cellsWith m (suc i))
 
-abbrev All : (ℕ → Type 0) → List ℕ → Type 0
+abbrev pub All : (ℕ → Type 0) → List ℕ → Type 0
 All P [] = Unit {0}
 All P (x ∷ l) = P x × All P l
 
@@ -52,24 +42,37 @@ of-all P (true ∷ m) i a (suc q) e = subst P {x = suc i + q} (omega arith) (of-
 of-all P (false ∷ m) i a zero e = absurd (false≢true e)
 of-all P (false ∷ m) i a (suc q) e = subst P {x = suc i + q} (omega arith) (of-all P m (suc i) a q e)
 
-abbrev Named : ℕ → Type 0
-Named q = named (getD (idAt stocked (Marker q)) 4 0) ≡ Marker q
+-- on a track t whose records are named by the last byte of their IDs
+module _ (t : List ℕ) (named : ℕ → Spot) where
+  abbrev Named : Spot → Type 0
+  Named x = named (getD (idAt t x) 4 0) ≡ x
 
-each-named : All Named (cellsWith (marks stocked) 0)
-unfolding track stocked idAt idOf cellsWith
-each-named = (refl, (refl, (refl, tt)))
+  abbrev pub Marked : ℕ → Type 0
+  Marked q = Named (Marker q)
 
-marker-named : (q : ℕ) → IsRecord stocked (Marker q) → Named q
-unfolding spotFits
-marker-named q e = subst Named (zero-add q) (of-all Named (marks stocked) 0 each-named q e)
+  module _ (r0 : Named R0) (each : All Marked (cellsWith (marks t) 0)) where
+    by-r : (x : Spot) → IsRecord t x → Named x
+    unfolding spotFits
+    by-r R0 e = r0
+    by-r (Marker q) e = subst Marked (zero-add q) (of-all Marked (marks t) 0 each q e)
 
-by-r : (x : Spot) → IsRecord stocked x → named (getD (idAt stocked x) 4 0) ≡ x
-unfolding track stocked idAt idOf
-by-r R0 e = refl
-by-r (Marker q) e = marker-named q e
+    pub ids-differ : IdsDiffer t
+    ids-differ x y f h e = sym (by-r x f) ∙ ap (λ (v : List ℕ). named (getD v 4 0)) e ∙ by-r y h
+
+-- ---- claim_box:Reading's track
+
+abbrev chain : World
+chain = startedOn stocked (chained 0x12 8) 3
+
+abbrev named : ℕ → Spot
+named zero = R0
+named (suc zero) = Marker 32
+named (suc (suc zero)) = Marker 53
+named (suc (suc (suc n))) = Marker 75
 
 differ : IdsDiffer stocked
-differ x y f h e = sym (by-r x f) ∙ ap (λ (v : List ℕ). named (getD v 4 0)) e ∙ by-r y h
+unfolding track stocked idAt idOf cellsWith
+differ = ids-differ stocked named refl (refl, (refl, (refl, tt)))
 
 under-is : trackUnder onePack chain ≡ stocked
 unfolding box stocked

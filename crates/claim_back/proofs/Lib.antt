@@ -7,9 +7,9 @@ pub mod After
 pub mod Again
 pub mod Lost
 pub mod Back
-pub mod Example
 pub mod There
 pub mod FoundWalk
 pub mod FoundWord
 pub mod FoundMet
 pub mod Found
+pub mod Example

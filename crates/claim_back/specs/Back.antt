@@ -2,13 +2,13 @@
 -- that takes that record (selected or come to by its marker; 16 for R0, 1A for the home address) and names only areas that the write laid or read, its area in
 -- storage clear of command words and the status word, places, of each area that the write laid and as far as its count goes, the bytes sent, zeros for those
 -- missing; DL 0 as document 01 says. (A key that was unreadable before an 05 stays so: a read that names it ends in Data Check.)"
-use Prim.Native.Nat.{ℕ, _+_, _-_, _*_, _<_, min}
+use Prim.Native.Nat.{ℕ, _+_, _-_, _<_, min}
 use mathlib.Core.Path.{_≡_}
 use mathlib.Core.Bool.{Bool, true, false, not}
 use mathlib.Core.List.{List, [], _++_}
 use lib.ListN.{length, getD}
 use lib.Dec.{ltb, eqb}
-use Rattle.cells.specs.Cells.{pick, both, either, be16, part, padded, trackCells, marks}
+use Rattle.cells.specs.Cells.{pick, both, either, be16, part, padded, marks}
 use Rattle.words.specs.declared.{Word.Word, Tested.Tested}
 use Rattle.words.specs.Words.{statusAt}
 use Rattle.areas.specs.declared.{Counts.Counts}
@@ -17,7 +17,6 @@ use Rattle.hunt.specs.declared.{Spot.Spot, Next.Next}
 use Rattle.hunt.specs.Hunt.{countFirst, nextRecord}
 use Rattle.recording.specs.Recording.{countSent}
 use Rattle.pack.specs.declared.{Shape.Shape}
-use Rattle.pack.specs.Pack.{trackAt}
 use Rattle.held.specs.declared.{Selection.Selection, Position.Position, Orders.Orders, Held.Held}
 use Rattle.turn.specs.declared.{Ending.Ending}
 use Rattle.turn.specs.Turn.{Gives, reportOf, isCheck}
@@ -31,7 +30,7 @@ use Rattle.host.specs.Host.{guardOf, ifPasses, starts, goes}
 use Rattle.sound.specs.Sound.{endAt}
 use Rattle.claim_box.specs.Boxes.{allUnder}
 use Rattle.claim_box.specs.Confined.{inStatus, sparesByte, trackOn}
-use Rattle.claim_box.specs.Demand3.{DataChecked}
+use Rattle.claim_box.specs.Demand3.{track, DataChecked}
 use Rattle.claim_sound.specs.Soundness.{bytes, sparesDone}
 
 -- ---- "that record": what a write leaves and a read takes, the home address or a record
@@ -218,7 +217,7 @@ pub record KeyUnreadable (g : Shape) (w : World) : Type 0 where
 pub record WrittenReadsBack (g : Shape) : Type 0 where
   -- "with no later write on that track": its cells are those that the write left
   pub kept : (m : ℕ) (w v : World) → Since g m w v
-      → (trackAt (v .cells) (m * trackCells) ≡ trackAt (w .cells) (m * trackCells)) × (length (v .cells) ≡ length (w .cells))
+      → (track (v .cells) m ≡ track (w .cells) m) × (length (v .cells) ≡ length (w .cells))
   -- .. and where the write is word j + 1 of a go of n, what that go leaves comes after it, if no write of its later words is done on that track
   pub rest : (m : ℕ) (v : World) (n j : ℕ) → guardOf g v ≡ Guarded.Passes → j < n → run g j v .held .channel .going ≡ true
       → sparesDone g m (n - j - 1) (step g (run g j v)) ≡ true → Since g m (step g (run g j v)) (goes g n v .left)
@@ -233,7 +232,7 @@ pub record WrittenReadsBack (g : Shape) : Type 0 where
       → getD (goes g n v .left .storage) (e .address + i) 0 ≡ getD (askedBy e c (sentAt g w d k)) i 0
   -- "A key that was unreadable before an 05 stays so"
   pub stays : (w : World) (d : Word) (u : World) (K : KeyUnreadable g w) → Wrote g w d (Write.Update false) → Since g (trackOn g w) (step g w) u
-      → readable (trackAt (u .cells) (trackOn g w * trackCells)) (keyArea (countFirst (K .spot)) (countsThere g w)) ≡ false
+      → readable (track (u .cells) (trackOn g w)) (keyArea (countFirst (K .spot)) (countsThere g w)) ≡ false
   -- "a read that names it ends in Data Check"
   pub lost : (w : World) (d : Word) (u : World) (e : Word) (c : Bool) (K : KeyUnreadable g w) → Rereads g w d (Write.Update false) u e c
       → namesKey (ruleOf (e .code) .names) ≡ true → DataChecked (keyArea (countFirst (K .spot)) (countsThere g w)) u (step g u)

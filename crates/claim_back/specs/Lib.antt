@@ -1,4 +1,4 @@
 -- What is claimed of the box when it reads again what it wrote, and of the loop by which a host comes to a record.
 pub mod Back
-pub mod Example
 pub mod Found
+pub mod Example

@@ -34,8 +34,7 @@ use Rattle.claim_sound.specs.Soundness.{InBytes, knownCall, knownCalls, Known, 
 use Rattle.claim_sound.proofs.Soundness.{soundness-lasts}
 use Rattle.claim_sound.proofs.Soundness as Lasting
 use Rattle.claim_sound.proofs.Bytes.{under-bytes}
-use Rattle.claim_sound.proofs.Tracks.{go-same}
-use Rattle.claim_host.specs.Linked.{link, links, linkedTo, ifHeld, worldBy, ifRuns, ifRun, ifAllRun, used, LinkCut, LinkConfined, LinkAgrees, AllLinksAgree, none, more, sparedLinks, LinkFirst, LinkEnds, withCells, LinkDemand3, Deed, calls, brings, deed, deeds, LentBytes, broughtBytes, knownBy, knownDeed, knownDeeds, homeLeft, homesLeft, Linked}
+use Rattle.claim_host.specs.Linked.{link, links, linkedTo, ifHeld, worldBy, ifRuns, ifRun, ifAllRun, used, LinkCut, LinkConfined, LinkAgrees, AllLinksAgree, none, more, sparedLinks, LinkFirst, LinkEnds, withCells, LinkDemand3, Deed, calls, brings, deed, deeds, LentBytes, broughtBytes, knownDeed, knownDeeds, homeLeft, homesLeft, Linked}
 use Rattle.claim_host.proofs.Says.{by-kept, refused, Says, link-holds, link-wrong, link-says, left-says, left-wrong}
 
 -- ---- answers by their numbers
@@ -92,7 +91,7 @@ module _ (g : Shape) where
     -- a test of the words that run, by what the bytes say
     runs-by : (f : World → Bool) (h : Held) → kept (x .held) ≡ Holds h → ifRuns g x f ≡ true → ifPasses (guardOf g (worldBy x h)) (f (worldBy x h)) ≡ true
     unfolding ifRuns ifHeld
-    runs-by f h e q = sym (ap (λ (k : Kept). ifHeld k (λ (y : Held). ifPasses (guardOf g (worldBy x y)) (f (worldBy x y)))) e) ∙ q
+    runs-by f h e q = sym (ap (λ (k : Kept). ifHeld k (λ (y : Held). ifPasses (guardOf g (worldBy x y)) (f (worldBy x y))) true) e) ∙ q
 
     -- what holds of the call: by the model's, or of what was lent
     of-call : (k : HostCall) (P : Call → Type 0) → ((h : Held) → kept (x .held) ≡ Holds h → P (callOf (hear g k (worldBy x h)))) → P (refused g x) → P (link g k x)
@@ -115,7 +114,7 @@ module _ (g : Shape) where
       on-track = λ m i j q.
           of-call (go n) (λ (y : Call). getD (y .cells) (m * trackCells + i) 0 ≡ getD (x .cells) (m * trackCells + i) 0)
           (λ h e. C h .track m i j (runs-by _ h e q)) refl;
-      undone = λ m q. of-call (go n) (λ (y : Call). track (y .cells) m ≡ track (x .cells) m) (λ h e. go-same g m n (worldBy x h) (runs-by _ h e q)) refl;
+      undone = λ m q. of-call (go n) (λ (y : Call). track (y .cells) m ≡ track (x .cells) m) (λ h e. soundness-lasts g .same-go m n (worldBy x h) (runs-by _ h e q)) refl;
       storage = λ i q. of-call (go n) (λ (y : Call). getD (y .storage) i 0 ≡ getD (x .storage) i 0) (λ h e. C h .storage i (runs-by _ h e q)) refl;
       start-cells = of-call start (λ (y : Call). y .cells ≡ x .cells) (λ h e. C h .start-cells) refl;
       start-else = λ q. by-kept (x .held) _
@@ -127,7 +126,7 @@ module _ (g : Shape) where
       long = λ k. of-call k (λ (y : Call). length (y .cells) ≡ length (x .cells)) (λ h e. call-long k h) refl;
       storage-long = λ k. of-call k (λ (y : Call). length (y .storage) ≡ length (x .storage)) (λ h e. call-storage k h) refl;
       held-long = λ k. of-call k (λ (y : Call). length (y .held) ≡ length (x .held)) (λ h e. length-encoded _ ∙ sym (kept-long (x .held) h e)) refl;
-      wrong = λ k e. subst (λ (y : Call). (y .held ≡ x .held) × (y .storage ≡ x .storage) × (y .cells ≡ x .cells)) (sym (link-wrong g k x e)) (refl, refl, refl);
+      wrong = λ k e. link-wrong g k x e;
     }
 
   -- ---- the words of calls, told on lent bytes and on the world that they say
@@ -146,7 +145,7 @@ module _ (g : Shape) where
     unfolding ifRun ifRuns ifHeld
     ran-says start x w s = refl
     ran-says (go n) x w s =
-        ap (λ (k : Kept). ifHeld k (λ (h : Held). ifPasses (guardOf g (worldBy x h)) (f n (worldBy x h)))) (s .held)
+        ap (λ (k : Kept). ifHeld k (λ (h : Held). ifPasses (guardOf g (worldBy x h)) (f n (worldBy x h))) true) (s .held)
         ∙ ap (λ (v : World). ifPasses (guardOf g v) (f n v)) (s .same)
 
     all-says : (ks : List HostCall) (x : Call) (w : World) → Says x w → ifAllRun g f ks x ≡ allRan ks w
@@ -310,17 +309,17 @@ module _ (g : Shape) where
         (λ e. subst Bytes (sym (link-wrong g k x e)) (refused-bytes x b))
 
     call-known : (m : ℕ) (k : HostCall) (y : Bool) → Known m (x .cells) y → Known m (link g k x .cells) (knownDeed g m (calls k) x y)
-    unfolding knownDeed knownBy callOf left knownCalls
+    unfolding knownDeed ifHeld callOf left knownCalls
     call-known m k y S =
         let f : Held → Bool = λ (h : Held). knownCall g m k (worldBy x h) y in
         by-kept (x .held) _
         (λ h e.
-        subst (λ (z : Call). Known m (z .cells) (knownBy (kept (x .held)) f y)) (sym (link-holds g k x h e))
-        (subst (λ (z : Kept). Known m (hear g k (worldBy x h) .left .cells) (knownBy z f y)) (sym e)
+        subst (λ (z : Call). Known m (z .cells) (ifHeld (kept (x .held)) f y)) (sym (link-holds g k x h e))
+        (subst (λ (z : Kept). Known m (hear g k (worldBy x h) .left .cells) (ifHeld z f y)) (sym e)
         (soundness-lasts g .calls m (k ∷ []) (worldBy x h) (b .said h e) y S)))
         (λ e.
-        subst (λ (z : Call). Known m (z .cells) (knownBy (kept (x .held)) f y)) (sym (link-wrong g k x e))
-        (subst (λ (z : Kept). Known m (x .cells) (knownBy z f y)) (sym e) S))
+        subst (λ (z : Call). Known m (z .cells) (ifHeld (kept (x .held)) f y)) (sym (link-wrong g k x e))
+        (subst (λ (z : Kept). Known m (x .cells) (ifHeld z f y)) (sym e) S))
 
   -- what is brought
   module _ (v s : List ℕ) (ds : List Deed) (q : broughtBytes (brings v s ∷ ds) ≡ true) where
@@ -350,15 +349,15 @@ module _ (g : Shape) where
   -- ---- where no Write HA was done, what was known is known
 
   deed-keeps : (m : ℕ) (d : Deed) (x : Call) → homeLeft g d x ≡ true → knownDeed g m d x true ≡ true
-  unfolding knownDeed knownBy homeLeft ifHeld
+  unfolding knownDeed homeLeft ifHeld
   deed-keeps m (calls k) x q =
       let f : Held → Bool = λ (h : Held). knownCall g m k (worldBy x h) true in
-      let r : ifHeld (kept (x .held)) (λ (h : Held). homeKept g k (worldBy x h)) ≡ true = q in
+      let r : ifHeld (kept (x .held)) (λ (h : Held). homeKept g k (worldBy x h)) true ≡ true = q in
       by-kept (x .held) _
       (λ h e.
-      ap (λ (z : Kept). knownBy z f true) e
-      ∙ Lasting.call-keeps g m k (worldBy x h) (sym (ap (λ (z : Kept). ifHeld z (λ (i : Held). homeKept g k (worldBy x i))) e) ∙ r))
-      (λ e. ap (λ (z : Kept). knownBy z f true) e)
+      ap (λ (z : Kept). ifHeld z f true) e
+      ∙ Lasting.call-keeps g m k (worldBy x h) (sym (ap (λ (z : Kept). ifHeld z (λ (i : Held). homeKept g k (worldBy x i)) true) e) ∙ r))
+      (λ e. ap (λ (z : Kept). ifHeld z f true) e)
   deed-keeps m (brings v s) x q = refl
 
   deeds-keep : (m : ℕ) (ds : List Deed) (x : Call) → homesLeft g ds x ≡ true → knownDeeds g m ds x true ≡ true

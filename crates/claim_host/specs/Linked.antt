@@ -17,8 +17,8 @@ use Rattle.turn.specs.Turn.{withSense}
 use Rattle.channel.specs.Channel.{World, world}
 use Rattle.chain.specs.Step.{next, run}
 use Rattle.host.specs.declared.{Answer.Answer}
-use Rattle.host.specs.Host.{guardOf, ifPasses, answerNo}
-use Rattle.box_export.specs.Calls.{Call, startCall, goCall}
+use Rattle.host.specs.Host.{guardOf, ifPasses, answerNo, wrongHeld}
+use Rattle.box_export.specs.Calls.{Call, call, startCall, goCall}
 use Rattle.claim_box.specs.Boxes.{allUnder}
 use Rattle.claim_box.specs.Confined.{among, sparesCell, sparesByte, sparesTrack}
 use Rattle.claim_box.specs.Demand3.{track, Harmed, HostCall, start, go, spared, FirstReads, dataCheck}
@@ -40,10 +40,10 @@ unfoldable pub linkedTo : Shape → List HostCall → Call → Call
 linkedTo g [] x = x
 linkedTo g (k ∷ ks) x = linkedTo g ks (link g k x)
 
--- what holds of the words that would run: none, if the bytes encode no held state
-unfoldable pub ifHeld : Kept → (Held → Bool) → Bool
-ifHeld (Kept.Holds h) f = f h
-ifHeld Kept.Wrong f = true
+-- by the held state that the bytes encode; if they encode none, nothing runs, and it is b
+unfoldable pub ifHeld : Kept → (Held → Bool) → Bool → Bool
+ifHeld (Kept.Holds h) f b = f h
+ifHeld Kept.Wrong f b = b
 
 -- with what the bytes say, what is lent is a world
 abbrev pub worldBy : Call → Held → World
@@ -51,7 +51,7 @@ worldBy x h = world h (x .storage) (x .cells)
 
 -- what holds of the words of a go: nothing runs if it is refused
 unfoldable pub ifRuns : Shape → Call → (World → Bool) → Bool
-ifRuns g x f = ifHeld (kept (x .held)) (λ (h : Held). ifPasses (guardOf g (worldBy x h)) (f (worldBy x h)))
+ifRuns g x f = ifHeld (kept (x .held)) (λ (h : Held). ifPasses (guardOf g (worldBy x h)) (f (worldBy x h))) true
 
 -- .. and of all words that run in these calls
 unfoldable pub ifRun : Shape → (ℕ → World → Bool) → HostCall → Call → Bool
@@ -88,9 +88,9 @@ pub record LinkConfined (g : Shape) (n : ℕ) (x : Call) : Type 0 where
   pub long : (k : HostCall) → length (link g k x .cells) ≡ length (x .cells)
   pub storage-long : (k : HostCall) → length (link g k x .storage) ≡ length (x .storage)
   pub held-long : (k : HostCall) → length (link g k x .held) ≡ length (x .held)
-  -- bytes that encode no held state: all is left unchanged
+  -- bytes that encode no held state: a refusal, 4 unless 2 or 3 comes first, and all is left unchanged
   pub wrong : (k : HostCall) → kept (x .held) ≡ Kept.Wrong
-      → (link g k x .held ≡ x .held) × (link g k x .storage ≡ x .storage) × (link g k x .cells ≡ x .cells)
+      → link g k x ≡ call (answerNo (wrongHeld g (length (x .storage)) (length (x .cells)))) (x .held) (x .storage) (x .cells)
 
 -- ---- demand 3
 
@@ -116,8 +116,8 @@ pub record LinkFirst (g : Shape) (n : ℕ) (x : Area) (allowance k : ℕ) (y : C
   pub says : kept (y .held) ≡ Kept.Holds said
   pub first : FirstReads g n x allowance k (worldBy y said)
 
--- then that go, from the same bytes and storage on the damaged pack, answers 0, chain ended, at that word: where the world was u before it, storage is
--- that of u with a new status word, Unit Check and the word's whole count left; the bytes say Data Check; no cell changed
+-- then that go, from the same bytes and storage on the damaged pack, answers 0, chain ended, at that word: where u is the world of the undamaged pack
+-- before it, storage is that of u with a new status word, Unit Check and the word's whole count left; the bytes say Data Check; no cell changed
 pub record LinkEnds (x : Area) (u : World) (y z : Call) : Type 0 where
   pub word : Word
   pub given : next u ≡ Tested.Obey word
@@ -163,13 +163,9 @@ broughtBytes [] = true
 broughtBytes (calls k ∷ ds) = broughtBytes ds
 broughtBytes (brings v s ∷ ds) = both (both (allUnder bytes v) (allUnder bytes s)) (broughtBytes ds)
 
--- whether track m is known to be soundly written after it; nothing runs if the bytes encode no held state
-unfoldable pub knownBy : Kept → (Held → Bool) → Bool → Bool
-knownBy (Kept.Holds h) f b = f h
-knownBy Kept.Wrong f b = b
-
+-- whether track m is known to be soundly written after it
 unfoldable pub knownDeed : Shape → ℕ → Deed → Call → Bool → Bool
-knownDeed g m (calls k) x b = knownBy (kept (x .held)) (λ (h : Held). knownCall g m k (worldBy x h) b) b
+knownDeed g m (calls k) x b = ifHeld (kept (x .held)) (λ (h : Held). knownCall g m k (worldBy x h) b) b
 knownDeed g m (brings v s) x b = b
 
 unfoldable pub knownDeeds : Shape → ℕ → List Deed → Call → Bool → Bool
@@ -178,7 +174,7 @@ knownDeeds g m (d ∷ ds) x b = knownDeeds g m ds (deed g d x) (knownDeed g m d 
 
 -- no Write HA was done in these calls
 unfoldable pub homeLeft : Shape → Deed → Call → Bool
-homeLeft g (calls k) x = ifHeld (kept (x .held)) (λ (h : Held). homeKept g k (worldBy x h))
+homeLeft g (calls k) x = ifHeld (kept (x .held)) (λ (h : Held). homeKept g k (worldBy x h)) true
 homeLeft g (brings v s) x = true
 
 unfoldable pub homesLeft : Shape → List Deed → Call → Bool

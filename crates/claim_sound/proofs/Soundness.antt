@@ -41,7 +41,7 @@ use Rattle.claim_box.specs.Demand3.{track, HostCall, start, go, hear, left}
 use Rattle.claim_box.proofs.Confined.{all-confined}
 use Rattle.claim_sound.specs.Soundness.{InBytes, writesHome, writesR0, isThe, testedDone, done, doneOn, knownNext, knownRun, knownGo, knownCall, knownCalls, Known, homeKept, homesKept, SoundnessLasts}
 use Rattle.claim_sound.proofs.Bytes.{under-bytes}
-use Rattle.claim_sound.proofs.Tracks.{other-track, put-there, none-laid, checked-laid, run-same}
+use Rattle.claim_sound.proofs.Tracks.{other-track, put-there, none-laid, checked-laid, run-same, go-same}
 use Rattle.claim_sound.proofs.Words.{step-bytes, call-bytes, calls-bytes}
 
 -- ---- a write that was done left what lasts
@@ -249,6 +249,7 @@ soundness-lasts g = record {
   bytes-word = step-bytes g;
   bytes-calls = calls-bytes g;
   same = run-same g;
+  same-go = go-same g;
   word = λ m w L b y S. step-known g w L b m y S;
   allowance = run-known g;
   calls = calls-known g;

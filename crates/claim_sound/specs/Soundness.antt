@@ -15,7 +15,7 @@ use Rattle.turn.specs.Turn.{isCheck}
 use Rattle.channel.specs.Channel.{World}
 use Rattle.chain.specs.Step.{next, turnOf, step, run, Legal}
 use Rattle.host.specs.declared.{Guarded.Guarded}
-use Rattle.host.specs.Host.{guardOf, ifPasses}
+use Rattle.host.specs.Host.{guardOf, ifPasses, goes}
 use Rattle.sound.specs.Sound.{Sound}
 use Rattle.claim_box.specs.Boxes.{allUnder}
 use Rattle.claim_box.specs.Confined.{trackOn, spares}
@@ -120,8 +120,9 @@ pub record SoundnessLasts (g : Shape) : Type 0 where
   -- storage of bytes stays bytes
   pub bytes-word : (w : World) → Legal g w → InBytes w → InBytes (step g w)
   pub bytes-calls : (ks : List HostCall) (w : World) → InBytes w → InBytes (left g ks w)
-  -- where no write was done on it a track is as it was
+  -- where no write was done on it a track is as it was: by the allowance, and the go
   pub same : (m n : ℕ) (w : World) → Legal g w → sparesDone g m n w ≡ true → track (run g n w .cells) m ≡ track (w .cells) m
+  pub same-go : (m n : ℕ) (w : World) → ifPasses (guardOf g w) (sparesDone g m n w) ≡ true → track (goes g n w .left .cells) m ≡ track (w .cells) m
   -- soundly written: a track, by the word, the allowance, and any calls of a host
   pub word : (m : ℕ) (w : World) → Legal g w → InBytes w → (b : Bool) → Known m (w .cells) b → Known m (step g w .cells) (knownNext g m w b)
   pub allowance : (m n : ℕ) (w : World) → Legal g w → InBytes w → (b : Bool) → Known m (w .cells) b → Known m (run g n w .cells) (knownRun g m n w b)
