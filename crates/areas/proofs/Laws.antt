@@ -87,13 +87,13 @@ module _ (t : List ℕ) (c : ℕ) (a : Area) (b : Bool) (e : a ≡ countArea c) 
   is-it : b ≡ readable t (countArea c)
   is-it = r ∙ ap (readable t) e
 
-  pub count-reads : b ≡ true → (n : Counts) → n ≡ countsAt t c → Reads n ≡ readCount t c
-  unfolding readCount
-  count-reads g n f = ap Reads f ∙ ap (λ (x : Bool). pick x (Reads (countsAt t c)) Fails) (sym g ∙ is-it)
-
   pub count-fails : b ≡ false → Fails ≡ readCount t c
   unfolding readCount
   count-fails g = ap (λ (x : Bool). pick x (Reads (countsAt t c)) Fails) (sym g ∙ is-it)
+
+  pub count-reads : b ≡ true → (n : Counts) → n ≡ countsAt t c → Reads n ≡ readCount t c
+  unfolding readCount
+  count-reads g n f = ap Reads f ∙ ap (λ (x : Bool). pick x (Reads (countsAt t c)) Fails) (sym g ∙ is-it)
 
 -- ---- how many cells
 

@@ -34,13 +34,13 @@ pub getD-marks : (t : List ℕ) (p : ℕ) → getD (marks t) p false ≡ markAt 
 unfolding marks markAt
 getD-marks t p = getD-marksFrom 0 t p ∙ ap (λ (k : ℕ). both (leb firstMarker k) (eqb (getD t p 0) marker)) (zero-add p)
 
-pub mark-here : (t : List ℕ) (p : ℕ) → 7 ≤ p → getD t p 0 ≡ 512 → markAt t p ≡ true
+pub mark-here : (t : List ℕ) (p : ℕ) → firstMarker ≤ p → getD t p 0 ≡ 512 → markAt t p ≡ true
 unfolding markAt
-mark-here t p h e = ap₂ both (le-leb 7 p h) (eq-eqb (getD t p 0) 512 e)
+mark-here t p h e = ap₂ both (le-leb firstMarker p h) (eq-eqb (getD t p 0) 512 e)
 
 pub mark-none : (t : List ℕ) (p : ℕ) → (getD t p 0 ≡ 512 → ⊥) → markAt t p ≡ false
 unfolding markAt
-mark-none t p e = ap (both (leb 7 p)) (ne-eqb (getD t p 0) 512 e) ∙ both-never (leb 7 p)
+mark-none t p e = ap (both (leb firstMarker p)) (ne-eqb (getD t p 0) 512 e) ∙ both-never (leb firstMarker p)
 
 -- none below cell 7
 pub mark-low : (t : List ℕ) (p : ℕ) → p < 7 → markAt t p ≡ false

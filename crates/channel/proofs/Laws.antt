@@ -71,17 +71,17 @@ module _ (w : Word) (d : Report) where
   by-ending b p q r = onto true false _ (eq-eqb _ _ p) (sym q ∙ r) refl
 
   module _ (c : Channel) where
+    pub held-rests : (b : Bool) → b ≡ goesOn w d → b ≡ false → rested (d .position) ≡ heldAfter c w d
+    unfolding heldAfter
+    held-rests b p q =
+        ap (λ (x : Bool). pick x (record { position = d .position; orders = d .orders; channel = onward c (stride (d .ending)) }) (rested (d .position))) (sym q ∙ p)
+
     pub held-on : (b : Bool) (k : Channel) (n : ℕ) → b ≡ goesOn w d → b ≡ true → n ≡ stride (d .ending) → k ≡ onward c n
         → record { position = d .position; orders = d .orders; channel = k } ≡ heldAfter c w d
     unfolding heldAfter
     held-on b k n p q r s =
         ap (λ (x : Channel). record { position = d .position; orders = d .orders; channel = x }) (s ∙ ap (onward c) r)
         ∙ ap (λ (x : Bool). pick x (record { position = d .position; orders = d .orders; channel = onward c (stride (d .ending)) }) (rested (d .position))) (sym q ∙ p)
-
-    pub held-rests : (b : Bool) → b ≡ goesOn w d → b ≡ false → rested (d .position) ≡ heldAfter c w d
-    unfolding heldAfter
-    held-rests b p q =
-        ap (λ (x : Bool). pick x (record { position = d .position; orders = d .orders; channel = onward c (stride (d .ending)) }) (rested (d .position))) (sym q ∙ p)
 
     pub storage-on : (b : Bool) (s : List ℕ) → b ≡ goesOn w d → b ≡ true → s ≡ withStatus c w d s
     unfolding withStatus

@@ -94,13 +94,6 @@ module _ (x : Sight) where
       (omega (arith, endTurn h, l), λ i j k. all h i j (omega (arith, k, l)), tt)) (λ q. tt)
 
   module _ (c : ℕ) (n : Counts) (t : List ℕ) (e : length t ≡ trackCells) where
-    key-within : (key : Bool) → Over t key c n → Within (reaches (Write.Update key) c n) (overPiece x (keyArea c n) 0 (keySent key n))
-    unfolding keySent reaches inKey inArea keyArea overPiece
-    key-within true O =
-        over-within _ (keyArea c n) 0 (n .kl) (λ h. omega (arith, O .key-in h, e))
-        (λ h i p q. ap (λ (b : Bool). either b (inData c n i)) (both-of (lt-ltb 0 (n .kl) h) (both-of (le-leb _ _ p) (lt-ltb _ _ q))))
-    key-within false O = tt
-
     data-within : (key : Bool) → Over t key c n → Within (reaches (Write.Update key) c n) (overPiece x (dataArea c n) (keySent key n) (n .dl))
     unfolding reaches inData inArea dataArea
     data-within key O =
@@ -109,6 +102,13 @@ module _ (x : Sight) where
         let m : i < dataArea c n .first + (max 1 (n .dl) + 2) = omega (arith, q, h) in
         pick-by (λ (b : Bool). b ≡ true) (both key (inKey c n i)) (λ k. refl)
         (λ k. both-of (lt-ltb 0 (n .dl) h) (both-of (le-leb _ _ p) (lt-ltb _ _ m))))
+
+    key-within : (key : Bool) → Over t key c n → Within (reaches (Write.Update key) c n) (overPiece x (keyArea c n) 0 (keySent key n))
+    unfolding keySent reaches inKey inArea keyArea overPiece
+    key-within true O =
+        over-within _ (keyArea c n) 0 (n .kl) (λ h. omega (arith, O .key-in h, e))
+        (λ h i p q. ap (λ (b : Bool). either b (inData c n i)) (both-of (lt-ltb 0 (n .kl) h) (both-of (le-leb _ _ p) (lt-ltb _ _ q))))
+    key-within false O = tt
 
     update-within : (key : Bool) → x .recorded ≡ allRecorded t (named c key true n)
         → Within (reaches (Write.Update key) c n) (updateTurn key x c n .lays)

@@ -45,6 +45,11 @@ unfolding aheadOr spotFits
 ahead-on m (At p) x h k = h
 ahead-on m Nothing x h k = k
 
+-- past the index it is the record of the first marker
+past-is : (p : ℕ) → pastIndex (At p) ≡ ComesTo (Marker p) 1
+unfolding pastIndex
+past-is p = refl
+
 past-on : (m : List Bool) (f : Found) → FoundOn m f → NextOn m (pastIndex f)
 unfolding pastIndex spotFits
 past-on m (At p) h = h
