@@ -1,17 +1,21 @@
 -- What was written reads back: at the read's word, and through the call that runs it. Why: a go runs the words before it, then the read, then words that may
--- not change the byte; none, if the read ended in Data Check.
+-- not change the byte; none, if the chain ended with the read.
 use Prim.Native.Nat.{ℕ, suc, _+_, _-_, _<_}
 use mathlib.Core.Path.{_≡_, refl, sym, ap, _∙_, subst}
 use mathlib.Core.Bool.{Bool, true, false, false≢true}
 use native.Mathlib.Omega.{arith}
 use lib.ListN.{getD}
 use Rattle.cells.specs.Cells.{pick}
+use Rattle.words.specs.declared.{Word.Word, Tested.Tested}
+use Rattle.words.specs.Words.{statusAt}
 use Rattle.areas.specs.declared.{Area.Area}
 use Rattle.pack.specs.declared.{Shape.Shape}
 use Rattle.held.specs.declared.{Held.Held}
 use Rattle.held.specs.Held.{fresh, freshChannel, rested}
-use Rattle.channel.specs.Channel.{World}
-use Rattle.chain.specs.Step.{step, run, Legal}
+use Rattle.turn.specs.declared.{Report.Report}
+use Rattle.turn.specs.Turn.{reportOf}
+use Rattle.channel.specs.Channel.{stride, onward, goesOn, heldAfter, World}
+use Rattle.chain.specs.Step.{next, turnOf, settled, obeyed, stepBy, step, run, Legal}
 use Rattle.chain.proofs.Legal.{step-legal}
 use Rattle.chain.proofs.Runs.{run-on, run-idle, run-split, run-legal}
 use Rattle.host.specs.declared.{Answer.Answer, Guarded.Guarded}
@@ -22,7 +26,7 @@ use Rattle.claim_box.specs.Confined.{sparesByte}
 use Rattle.claim_box.specs.Demand3.{DataChecked}
 use Rattle.claim_box.proofs.Runs.{run-confined}
 use Rattle.claim_sound.specs.Soundness.{sparesDone}
-use Rattle.claim_back.specs.Back.{Since, now, words, WrittenReadsBack}
+use Rattle.claim_back.specs.Back.{Since, now, words, sentAt, noData, WrittenReadsBack}
 use Rattle.claim_back.proofs.After.{track-kept}
 use Rattle.claim_back.proofs.Again.{back}
 use Rattle.claim_back.proofs.Lost.{stays, key-lost}
@@ -57,13 +61,9 @@ module _ (g : Shape) (v : World) (n : ℕ) (p : guardOf g v ≡ Guarded.Passes) 
         ap (λ (y : World). getD (y .storage) i 0) (go-runs ∙ runs-on)
         ∙ run-confined g (n - j - 1) (step g (run g j v)) after-legal .storage i q
 
--- a word that ends in Data Check ends its chain, so the go leaves what that word left, and the host hears that the chain ended
-module _ (g : Shape) (v : World) (n : ℕ) (p : guardOf g v ≡ Guarded.Passes) (j : ℕ) (h : j < n) (going : run g j v .held .channel .going ≡ true) (x : Area)
-    (D : DataChecked x (run g j v) (step g (run g j v))) where
-  over : step g (run g j v) .held .channel .going ≡ false
-  unfolding rested fresh freshChannel
-  over = ap (λ (y : Held). y .channel .going) (D .held)
-
+-- where word j + 1 ends the chain, the go leaves what that word left, and the host hears that the chain ended
+module _ (g : Shape) (v : World) (n : ℕ) (p : guardOf g v ≡ Guarded.Passes) (j : ℕ) (h : j < n) (going : run g j v .held .channel .going ≡ true)
+    (over : step g (run g j v) .held .channel .going ≡ false) where
   -- a chain of which a word ran was going
   was-going : (b : Bool) → v .held .channel .going ≡ b → v .held .channel .going ≡ true
   was-going true q = q
@@ -73,8 +73,21 @@ module _ (g : Shape) (v : World) (n : ℕ) (p : guardOf g v ≡ Guarded.Passes) 
   unfolding goes guards ran
   ends-there = rw (runs-on g v n p j h going ∙ run-idle g (n - j - 1) (step g (run g j v)) over, over, p, was-going _ refl)
 
-  heard-there : (goes g n v .answer ≡ Answer.ChainEnded) × DataChecked x (run g j v) (goes g n v .left)
-  heard-there = (ap (λ (y : Hears). y .answer) ends-there, rw ends-there D)
+  heard-there : (P : World → Type 0) → P (step g (run g j v)) → (goes g n v .answer ≡ Answer.ChainEnded) × P (goes g n v .left)
+  heard-there P x = (ap (λ (y : Hears). y .answer) ends-there, subst (λ (y : Hears). P (y .left)) (sym ends-there) x)
+
+-- a word after which the chain does not go on ends it, and so does Data Check
+module _ (g : Shape) (u : World) where
+  word-over : (e : Word) → next u ≡ Tested.Obey e → goesOn e (reportOf (turnOf g u e)) ≡ false → step g u .held .channel .going ≡ false
+  unfolding step stepBy obeyed settled heldAfter rested fresh freshChannel
+  word-over e w q =
+      let x : Report = reportOf (turnOf g u e) in
+      ap (λ (y : Tested). stepBy g u y .held .channel .going) w
+      ∙ ap (λ (b : Bool). pick b (record { position = x .position; orders = x .orders; channel = onward (u .held .channel) (stride (x .ending)) }) (rested (x .position)) .channel .going) q
+
+  check-over : (x : Area) → DataChecked x u (step g u) → step g u .held .channel .going ≡ false
+  unfolding rested fresh freshChannel
+  check-over x D = ap (λ (y : Held). y .channel .going) (D .held)
 
 pub written-reads-back : (g : Shape) → WrittenReadsBack g
 written-reads-back g = record {
@@ -85,5 +98,10 @@ written-reads-back g = record {
       stands g v n p j h going (e .address + i) spares ∙ back g w d k (run g j v) e c R knows .places i less clear;
   stays = λ w d u K W s. stays g w d K W u s;
   lost = λ w d u e c K R names. key-lost g w d K u e c R names;
-  lost-go = λ w d v n j e c K p h going R names. heard-there g v n p j h going _ (key-lost g w d K (run g j v) e c R names);
+  go-ends = λ w d k v n j e c p h going R knows q.
+      heard-there g v n p j h going (word-over g (run g j v) e (R .word) q)
+      (λ (y : World). getD (y .storage) (statusAt + 4) 0 ≡ pick (noData e (sentAt g w d k)) 0x0D 0x0C) (back g w d k (run g j v) e c R knows .shown q);
+  lost-go = λ w d v n j e c K p h going R names.
+      let D = key-lost g w d K (run g j v) e c R names in
+      heard-there g v n p j h going (check-over g (run g j v) _ D) (DataChecked _ (run g j v)) D;
 }

@@ -191,7 +191,7 @@ askedBy e counted x = asked (ruleOf (e .code) .names) counted x
 abbrev pub clear : Shape → World → Word → ℕ → Bool
 clear g u e i = either (goesOn e (reportOf (turnOf g u e))) (not (inStatus (e .address + i)))
 
--- "DL 0 as document 01 says": no data was sent, and the row of the read has Unit Exception for that
+-- "DL 0 as document 01 says": DL is 0, so there is no data, and the row of the read has Unit Exception for that
 abbrev pub noData : Word → Sent → Bool
 noData e x = both (ruleOf (e .code) .excepts) (eqb (length (x .body)) 0)
 
@@ -230,6 +230,11 @@ pub record WrittenReadsBack (g : Shape) : Type 0 where
       → (i : ℕ) → i < min (e .count) (length (askedBy e c (sentAt g w d k))) → clear g (run g j v) e i ≡ true
       → sparesByte g (e .address + i) (n - j - 1) (step g (run g j v)) ≡ true
       → getD (goes g n v .left .storage) (e .address + i) 0 ≡ getD (askedBy e c (sentAt g w d k)) i 0
+  -- .. and if the chain ends with that read, the host hears so and finds the read's unit status in the status word
+  pub go-ends : (w : World) (d : Word) (k : Write) (v : World) (n j : ℕ) (e : Word) (c : Bool) → guardOf g v ≡ Guarded.Passes → j < n
+      → run g j v .held .channel .going ≡ true → Rereads g w d k (run g j v) e c → namesPassed g w k e ≡ false
+      → goesOn e (reportOf (turnOf g (run g j v) e)) ≡ false
+      → (goes g n v .answer ≡ Answer.ChainEnded) × (getD (goes g n v .left .storage) (statusAt + 4) 0 ≡ pick (noData e (sentAt g w d k)) 0x0D 0x0C)
   -- "A key that was unreadable before an 05 stays so"
   pub stays : (w : World) (d : Word) (u : World) (K : KeyUnreadable g w) → Wrote g w d (Write.Update false) → Since g (trackOn g w) (step g w) u
       → readable (track (u .cells) (trackOn g w)) (keyArea (countFirst (K .spot)) (countsThere g w)) ≡ false

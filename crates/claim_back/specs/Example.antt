@@ -1,4 +1,4 @@
--- Reading back, once, on one track: the premises of `Back` and `Found` are met, and what they promise is there. On a track with home address and R0, Search
+-- Reading back, by example, on two tracks: the premises of `Back` and `Found` are met, and what they promise is there. On a track with home address and R0, Search
 -- ID finds R0, 1D writes record 1 behind it with two bytes of its data missing, and 1E comes to it by its marker, past the index point; or the host brings
 -- another chain after the 1D, a loop of 31 and TIC, which comes to it by the ID sent. On a track whose R0 has a key that cannot be read, 05 writes R0's
 -- data, and 16 reads R0.

@@ -34,7 +34,7 @@ use Rattle.claim_sound.specs.Soundness.{InBytes, knownCall, knownCalls, Known, 
 use Rattle.claim_sound.proofs.Soundness.{soundness-lasts}
 use Rattle.claim_sound.proofs.Soundness as Lasting
 use Rattle.claim_sound.proofs.Bytes.{under-bytes}
-use Rattle.claim_host.specs.Linked.{link, links, linkedTo, ifHeld, worldBy, ifRuns, ifRun, ifAllRun, used, LinkCut, LinkConfined, LinkAgrees, AllLinksAgree, none, more, sparedLinks, LinkFirst, LinkEnds, withCells, LinkDemand3, Deed, calls, brings, deed, deeds, LentBytes, broughtBytes, knownDeed, knownDeeds, homeLeft, homesLeft, Linked}
+use Rattle.claim_host.specs.Linked.{link, links, linkedTo, ifHeld, worldBy, ifRuns, ifRun, ifAllRun, used, LinkCut, LinkConfined, LinkAgrees, AllLinksAgree, none, more, sparedLinks, LinkFirst, LinkEnds, withCells, LinkDemand3, Deed, calls, brings, deed, deeds, LentBytes, broughtBytes, knownDeed, knownDeeds, homeSpared, homesSpared, Linked}
 use Rattle.claim_host.proofs.Says.{by-kept, refused, Says, link-holds, link-wrong, link-says, left-says, left-wrong}
 
 -- ---- answers by their numbers
@@ -348,8 +348,8 @@ module _ (g : Shape) where
 
   -- ---- where no Write HA was done, what was known is known
 
-  deed-keeps : (m : ℕ) (d : Deed) (x : Call) → homeLeft g d x ≡ true → knownDeed g m d x true ≡ true
-  unfolding knownDeed homeLeft ifHeld
+  deed-keeps : (m : ℕ) (d : Deed) (x : Call) → homeSpared g d x ≡ true → knownDeed g m d x true ≡ true
+  unfolding knownDeed homeSpared ifHeld
   deed-keeps m (calls k) x q =
       let f : Held → Bool = λ (h : Held). knownCall g m k (worldBy x h) true in
       let r : ifHeld (kept (x .held)) (λ (h : Held). homeKept g k (worldBy x h)) true ≡ true = q in
@@ -360,11 +360,11 @@ module _ (g : Shape) where
       (λ e. ap (λ (z : Kept). ifHeld z f true) e)
   deed-keeps m (brings v s) x q = refl
 
-  deeds-keep : (m : ℕ) (ds : List Deed) (x : Call) → homesLeft g ds x ≡ true → knownDeeds g m ds x true ≡ true
-  unfolding homesLeft knownDeeds
+  deeds-keep : (m : ℕ) (ds : List Deed) (x : Call) → homesSpared g ds x ≡ true → knownDeeds g m ds x true ≡ true
+  unfolding homesSpared knownDeeds
   deeds-keep m [] x q = refl
   deeds-keep m (d ∷ ds) x q =
-      ap (knownDeeds g m ds (deed g d x)) (deed-keeps m d x (first-of (homeLeft g d x) _ q)) ∙ deeds-keep m ds (deed g d x) (second-of (homeLeft g d x) _ q)
+      ap (knownDeeds g m ds (deed g d x)) (deed-keeps m d x (first-of (homeSpared g d x) _ q)) ∙ deeds-keep m ds (deed g d x) (second-of (homeSpared g d x) _ q)
 
 -- ---- all of it
 

@@ -78,7 +78,7 @@ pub record LinkConfined (g : Shape) (n : ℕ) (x : Call) : Type 0 where
   pub cells : (i : ℕ) → ifRuns g x (sparesCell g i n) ≡ true → getD (link g (go n) x .cells) i gap ≡ getD (x .cells) i gap
   pub on-track : (m i : ℕ) → i < trackCells → ifRuns g x (sparesTrack g m n) ≡ true
       → getD (link g (go n) x .cells) (m * trackCells + i) gap ≡ getD (x .cells) (m * trackCells + i) gap
-  -- a track on which no write was done, for those there were ended in Unit Check, is as it was
+  -- a track on which no write was done (any that ran there ended in Unit Check) is as it was
   pub undone : (m : ℕ) → ifRuns g x (sparesDone g m n) ≡ true → track (link g (go n) x .cells) m ≡ track (x .cells) m
   pub storage : (i : ℕ) → ifRuns g x (sparesByte g i n) ≡ true → getD (link g (go n) x .storage) i 0 ≡ getD (x .storage) i 0
   pub start-cells : link g start x .cells ≡ x .cells
@@ -172,20 +172,20 @@ unfoldable pub knownDeeds : Shape → ℕ → List Deed → Call → Bool → Bo
 knownDeeds g m [] x b = b
 knownDeeds g m (d ∷ ds) x b = knownDeeds g m ds (deed g d x) (knownDeed g m d x b)
 
--- no Write HA was done in these calls
-unfoldable pub homeLeft : Shape → Deed → Call → Bool
-homeLeft g (calls k) x = ifHeld (kept (x .held)) (λ (h : Held). homeKept g k (worldBy x h)) true
-homeLeft g (brings v s) x = true
+-- no Write HA was done
+unfoldable pub homeSpared : Shape → Deed → Call → Bool
+homeSpared g (calls k) x = ifHeld (kept (x .held)) (λ (h : Held). homeKept g k (worldBy x h)) true
+homeSpared g (brings v s) x = true
 
-unfoldable pub homesLeft : Shape → List Deed → Call → Bool
-homesLeft g [] x = true
-homesLeft g (d ∷ ds) x = both (homeLeft g d x) (homesLeft g ds (deed g d x))
+unfoldable pub homesSpared : Shape → List Deed → Call → Bool
+homesSpared g [] x = true
+homesSpared g (d ∷ ds) x = both (homeSpared g d x) (homesSpared g ds (deed g d x))
 
 pub record LinkSound (g : Shape) (ds : List Deed) (x : Call) : Type 0 where
   pub lent-storage : LentBytes x → broughtBytes ds ≡ true → allUnder bytes (deeds g ds x .storage) ≡ true
   pub track-sound : LentBytes x → broughtBytes ds ≡ true → (m : ℕ) (b : Bool) → Known m (x .cells) b
       → Known m (deeds g ds x .cells) (knownDeeds g m ds x b)
-  pub pack-sound : LentBytes x → broughtBytes ds ≡ true → homesLeft g ds x ≡ true → AllSound g (x .cells) → AllSound g (deeds g ds x .cells)
+  pub pack-sound : LentBytes x → broughtBytes ds ≡ true → homesSpared g ds x ≡ true → AllSound g (x .cells) → AllSound g (deeds g ds x .cells)
 
 -- ---- all of it
 
