@@ -1,4 +1,5 @@
 // The areas of a track: where each lies, whether it is readable, a count area's values, the flag bytes of what is written.
+#![tactic(auto)]
 ghost use Rattle.std.specs.Prelude.{◌≡◌, ◌+◌, ◌*◌, ◌<◌, get_or};
 ghost use Rattle.cells.specs.Cells.{byte_of};
 ghost use Rattle.areas.specs.Areas.{area, readable, row_of, home_area, count_area, counts_at, read_count, key_cells, data_bytes, key_area, data_area, record_cells, end_by, needed, flag_of_r0, flag_after};
@@ -21,7 +22,7 @@ const ODD: u8 = 128;
 const COPIED: u8 = 4;
 
 // What an area holds.
-#[derive(Drop)]
+#[derive(Clone, Copy)]
 pub enum Part {
     Home,
     Count,
@@ -30,7 +31,7 @@ pub enum Part {
 }
 
 // An area: its first cell, and its bytes without the two of the check.
-#[derive(Drop)]
+#[derive(Clone, Copy)]
 pub struct Area {
     pub part: Part,
     pub first: u32,
@@ -38,7 +39,7 @@ pub struct Area {
 }
 
 // What a count area says.
-#[derive(Drop)]
+#[derive(Clone, Copy)]
 pub struct Counts {
     pub flag: u8,
     pub cc: u16,
@@ -49,7 +50,7 @@ pub struct Counts {
 }
 
 // A count area that was read: what it says, or that it is not readable.
-#[derive(Drop)]
+#[derive(Clone, Copy)]
 pub enum CountRead {
     Reads(Counts),
     Fails,

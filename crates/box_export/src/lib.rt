@@ -1,4 +1,5 @@
 // The box, and a look at a track, under names that C and Rust link. Nothing is required of any caller.
+#![tactic(auto)]
 ghost use Rattle.std.specs.Prelude.{◌≡◌, length, eqb};
 ghost use Rattle.cells.specs.Cells.{pick};
 ghost use Rattle.held.specs.Held.{fresh, held_bytes, encoded, bit};

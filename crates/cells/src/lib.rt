@@ -1,4 +1,6 @@
 // Bytes and cells of lent slices, read whether they are there or not, and numbers of several bytes.
+#![tactic(auto)]
+
 ghost use Rattle.std.specs.Prelude.{◌≡◌, ◌+◌, ◌*◌, ◌<◌, min, get_or};
 ghost use Rattle.cells.specs.Cells.{byte_of};
 

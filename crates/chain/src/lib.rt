@@ -1,4 +1,5 @@
 // A chain: one command word after another.
+#![tactic(auto)]
 ghost use Rattle.std.specs.Prelude.{◌≡◌, true, false, ℕ, ◌<◌, ◌≤◌};
 ghost use Rattle.words.specs.Words.{AreaFits, tested};
 ghost use Rattle.channel.specs.Channel.{world};
@@ -34,7 +35,7 @@ pub fn step(g: Shape, h: Held, storage: &mut [u8], cells: &mut [u16]) -> Held
 }
 
 // What is held after some command words, and what is left of the allowance.
-#[derive(Drop)]
+#[derive(Clone, Copy)]
 struct Reached {
     held: Held,
     left: u16,

@@ -1,1 +1,2 @@
 // No code: what is claimed of the box, in document 01's words.
+#![tactic(auto)]

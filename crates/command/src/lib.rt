@@ -1,4 +1,5 @@
 // What a command finds out before it acts.
+#![tactic(auto)]
 use areas::Counts;
 use held::{Orders, Position, Selection};
 use pack::Head;
@@ -7,7 +8,7 @@ use table::{Act, Names};
 
 // Where a command works: the head; the place after its work, which for a record is the first cell of its count area; what it leaves selected; the index
 // tally.
-#[derive(Drop)]
+#[derive(Clone, Copy)]
 pub struct Task {
     pub head: Head,
     pub place: u16,
@@ -16,14 +17,14 @@ pub struct Task {
 }
 
 // A row of the Unit Check table, or a task.
-#[derive(Drop)]
+#[derive(Clone, Copy)]
 pub enum Plan {
     Refuses(Row),
     Works(Task),
 }
 
 // What reading gives: what the count area says, all areas being readable, or the row of the first that is not.
-#[derive(Drop)]
+#[derive(Clone, Copy)]
 pub enum Got {
     Sees(Counts),
     Fails(Row),
@@ -31,7 +32,7 @@ pub enum Got {
 
 // A command that has read all that it names: its code; of its row what it does, which areas it names, whether DL 0 is Unit Exception, whether sense is
 // cleared; where the head stood, what it found, where it works, what the count area says there.
-#[derive(Drop)]
+#[derive(Clone, Copy)]
 pub struct Job {
     pub code: u8,
     pub act: Act,
@@ -45,7 +46,7 @@ pub struct Job {
 }
 
 // A row of the Unit Check table, or a command that can act.
-#[derive(Drop)]
+#[derive(Clone, Copy)]
 pub enum Ready {
     Refuses(Row),
     Acts(Job),

@@ -1,9 +1,11 @@
 // Bytes of a track compared with bytes sent.
+#![tactic(auto)]
+
 ghost use Rattle.std.specs.Prelude.{◌≡◌};
 ghost use Rattle.compare.specs.Compare.{There, compared_bytes};
 
 // How the track's number stands to the one sent.
-#[derive(Drop)]
+#[derive(Clone, Copy)]
 pub enum Compared {
     Low,
     Equal,

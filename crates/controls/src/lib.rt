@@ -1,4 +1,5 @@
 // The control commands.
+#![tactic(auto)]
 ghost use Rattle.std.specs.Prelude.{◌≡◌, List, ℕ, ◌+◌, ◌-◌, ◌≤◌, min, length, get_or};
 ghost use Rattle.cells.specs.Cells.{be16};
 ghost use Rattle.hunt.specs.Hunt.{WholeTrack};

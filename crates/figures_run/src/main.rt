@@ -1,4 +1,5 @@
 // The figures of document 01 that are run and not proved, each by a function of its own, which writes its lines.
+#![tactic(auto)]
 ghost use Rattle.std.specs.Prelude.{◌+◌, ◌<◌, ◌≤◌, length};
 
 use held::Held;

@@ -1,4 +1,5 @@
 // What the box holds from call to call, and the 64 bytes that a host keeps of it.
+#![tactic(auto)]
 ghost use Rattle.std.specs.Prelude.{◌≡◌, ◌+◌, ◌/◌, ◌%◌, ◌<◌, ◌≤◌, eqb, length, get_or, drop};
 ghost use Rattle.cells.specs.Cells.{pick, be16, overlay, padded, part};
 ghost use Rattle.held.specs.Held.{fresh, rested, held_bytes, bit, selection_no, selection_cell, encoded, all_zero, flags_fit, selection_encoded, encodes, is_set, selection_in, be32, decoded, kept};
@@ -13,14 +14,14 @@ const HELD_BYTES: usize = 64;
 const LAYOUT: u8 = 1;
 
 // The record selected for the very next command, if one is.
-#[derive(Drop)]
+#[derive(Clone, Copy)]
 pub enum Selection {
     Nothing,
     On(Spot),
 }
 
 // Where the head stands, and what sense says: this survives a chain.
-#[derive(Drop)]
+#[derive(Clone, Copy)]
 pub struct Position {
     pub cylinder: Cylinder,
     pub head: Head,
@@ -29,7 +30,7 @@ pub struct Position {
 }
 
 // What the commands of a chain leave for those after them.
-#[derive(Drop)]
+#[derive(Clone, Copy)]
 pub struct Orders {
     pub mask: u8,
     pub mask_set: bool,
@@ -42,7 +43,7 @@ pub struct Orders {
 }
 
 // The channel's part: whether a chain is going, its key, the next word's address, whether the word before was a TIC.
-#[derive(Drop)]
+#[derive(Clone, Copy)]
 pub struct Channel {
     pub going: bool,
     pub key: u8,
@@ -50,7 +51,7 @@ pub struct Channel {
     pub after_tic: bool,
 }
 
-#[derive(Drop)]
+#[derive(Clone, Copy)]
 pub struct Held {
     pub position: Position,
     pub orders: Orders,
@@ -58,7 +59,7 @@ pub struct Held {
 }
 
 // What lent bytes say: a held state, or that they encode none.
-#[derive(Drop)]
+#[derive(Clone, Copy)]
 pub enum Kept {
     Holds(Held),
     Wrong,

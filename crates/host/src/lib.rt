@@ -1,4 +1,5 @@
 // What a host calls: start, and go.
+#![tactic(auto)]
 ghost use Rattle.std.specs.Prelude.{◌≡◌, List, ℕ, ◌≤◌, length, false};
 ghost use Rattle.cells.specs.Cells.{pick, marks};
 ghost use Rattle.words.specs.Words.{begun_by, tested};
@@ -28,7 +29,7 @@ const STATUS_UNIT: usize = 68;
 
 const STATUS_CHANNEL: usize = 69;
 
-#[derive(Drop)]
+#[derive(Clone, Copy)]
 pub enum Answer {
     ChainEnded,
     AllowanceUsed,
@@ -41,14 +42,14 @@ pub enum Answer {
 }
 
 // What the refusals of any call come to.
-#[derive(Drop)]
+#[derive(Clone, Copy)]
 pub enum Guarded {
     Passes,
     Answers(Answer),
 }
 
 // An answer, and what the box holds then.
-#[derive(Drop)]
+#[derive(Clone, Copy)]
 pub struct Heard {
     pub answer: Answer,
     pub held: Held,

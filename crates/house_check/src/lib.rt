@@ -1,5 +1,7 @@
 // The check of an area of a track. Fewer than 16 cells go bit by bit, as the check is defined. From 16 cells on, four at a time are put into later
 // ones, until 16 stand for all but the last three at most; these come down to four bytes, and a table takes them and those three.
+#![tactic(auto)]
+
 ghost use Rattle.std.specs.Prelude.{◌≡◌, [], ◌++◌, ◌+◌, ◌-◌, ◌^◌, ◌<◌, ◌≤◌, eqb, length};
 ghost use Rattle.cells.specs.Cells.{both, part, bytes_of, all_bytes};
 ghost use Rattle.house_check.specs.Check.{check_bytes, good_cells, bit_step, feed, byte_bits, bits, check};
@@ -75,7 +77,7 @@ fn by_table(table: &[u16; 256], start: u16, cells: &[u16]) -> u16
 // ---- by folding
 
 // Sixteen cells, four to a word, the first of them the lowest. All cells before them were folded into them.
-#[derive(Drop)]
+#[derive(Clone, Copy)]
 struct Rest {
     a: u64,
     b: u64,

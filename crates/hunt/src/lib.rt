@@ -1,4 +1,6 @@
 // The hunt for the next record on a track, by its markers.
+#![tactic(auto)]
+
 ghost use Rattle.std.specs.Prelude.{◌≡◌, max, ◌≤◌};
 ghost use Rattle.cells.specs.Cells.{first_marker, marks, mark_at};
 ghost use Rattle.hunt.specs.Hunt.{WholeTrack, markerless, hunt, count_first, next_record, next_id, space_record};
@@ -9,21 +11,21 @@ const R0_FIRST: u32 = cells::FIRST_MARKER as u32;
 const STRIDE: u16 = 16;
 
 // The cell of a marker, or that there is none.
-#[derive(Drop)]
+#[derive(Clone, Copy)]
 pub enum Found {
     At(u16),
     Nothing,
 }
 
 // A record: R0, or the one whose marker is in a cell.
-#[derive(Drop)]
+#[derive(Clone, Copy)]
 pub enum Spot {
     R0,
     Marker(u16),
 }
 
 // Where the head comes to: a record, with the index points passed on the way, or past the index with no marker at all.
-#[derive(Drop)]
+#[derive(Clone, Copy)]
 pub enum Next {
     ComesTo(Spot, u8),
     NoMarker,

@@ -1,4 +1,5 @@
 // A look at one track, without a box: the next marker, and each area, where it lies and whether it is readable.
+#![tactic(auto)]
 ghost use Rattle.std.specs.Prelude.{◌≡◌, length};
 ghost use Rattle.areas.specs.Areas.{read_count};
 ghost use Rattle.look.specs.Look.{marked, marked_no, marker_call, looks_at, key_look, data_look, part_look, part_of, call_fits, lies, looked, looked_of, area_call};
@@ -15,7 +16,7 @@ const LAST_PART: u8 = 3;
 const NO_TRACK: u16 = 65535;
 
 // The cell that holds a marker, that there is none from a place on, or that these cells are no track.
-#[derive(Drop)]
+#[derive(Clone, Copy)]
 pub enum Marked {
     Cell(u16),
     NoMarker,
@@ -23,7 +24,7 @@ pub enum Marked {
 }
 
 // What a look at an area finds.
-#[derive(Drop)]
+#[derive(Clone, Copy)]
 pub enum Look {
     WrongCall,
     Readable(Area),

@@ -1,4 +1,5 @@
 // A pack of tracks, lent as one slice of cells: its shape, a seek's address, and where a track lies.
+#![tactic(auto)]
 ghost use Rattle.std.specs.Prelude.{◌≡◌, ◌+◌, ◌*◌, ◌≤◌};
 ghost use Rattle.cells.specs.Cells.{track_cells};
 ghost use Rattle.pack.specs.Pack.{from1_to, pack_fits, seek_to, seek_head, most_cylinders, most_heads, OnPack, start_of};
@@ -10,21 +11,21 @@ const MOST_CYLINDERS: u32 = 203;
 
 const MOST_HEADS: u32 = 10;
 
-#[derive(Drop)]
+#[derive(Clone, Copy)]
 pub struct Cylinder(pub u16);
 
-#[derive(Drop)]
+#[derive(Clone, Copy)]
 pub struct Head(pub u16);
 
 // How many cylinders and heads the host says a pack has.
-#[derive(Drop)]
+#[derive(Clone, Copy)]
 pub struct Shape {
     pub cylinders: u32,
     pub heads: u32,
 }
 
 // What a seek's address comes to: where the head then stands, or the Unit Check row.
-#[derive(Drop)]
+#[derive(Clone, Copy)]
 pub enum Sought {
     To(Cylinder, Head),
     Fails(Row),

@@ -1,4 +1,5 @@
 // The reads: how they end, and the bytes that they give.
+#![tactic(auto)]
 ghost use Rattle.std.specs.Prelude.{◌≡◌, List, false, ℕ, ◌+◌, ◌≤◌, length};
 ghost use Rattle.cells.specs.Cells.{pick, overlay, part, bytes_of};
 ghost use Rattle.turn.specs.Turn.{alone, filled, given};
@@ -19,14 +20,14 @@ const FLAG: u32 = 1;
 const COUNT_SENT: u16 = 8;
 
 // Where the next byte goes, and how many bytes are left out before it.
-#[derive(Drop)]
+#[derive(Clone, Copy)]
 struct Filling {
     at: usize,
     from: usize,
 }
 
 // Which parts of a record are given: its count's bytes, its key, its data.
-#[derive(Drop)]
+#[derive(Clone, Copy)]
 struct Parts {
     counted: bool,
     key: bool,

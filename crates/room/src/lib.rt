@@ -1,4 +1,6 @@
 // Room left on a track.
+#![tactic(auto)]
+
 ghost use Rattle.std.specs.Prelude.{◌≡◌};
 ghost use Rattle.room.specs.Room.{room_left, fits};
 

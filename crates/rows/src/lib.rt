@@ -1,9 +1,11 @@
 // The rows of the Unit Check table: what each puts into sense, and how many bytes its command takes first.
+#![tactic(auto)]
+
 ghost use Rattle.std.specs.Prelude.{◌≡◌};
 ghost use Rattle.rows.specs.Rows.{sense, sense_of, row_takes};
 
 // A row of the table, in the table's order.
-#[derive(Drop)]
+#[derive(Clone, Copy)]
 pub enum Row {
     UnknownCode,
     BadMask,
@@ -20,7 +22,7 @@ pub enum Row {
 }
 
 // Sense bytes 0 and 1; the other four are always zero.
-#[derive(Drop)]
+#[derive(Clone, Copy)]
 pub struct Sense {
     pub byte0: u8,
     pub byte1: u8,

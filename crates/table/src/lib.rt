@@ -1,10 +1,12 @@
 // The commands, a row each, and the file mask.
+#![tactic(auto)]
+
 ghost use Rattle.std.specs.Prelude.{◌≡◌, true, false};
 ghost use Rattle.table.specs.Table.{plain_row, look_row, seek_row, search_row, read_row, write_row, count, count_key, selects, selects_none, accepts, excepts, searches, reads, writes, unknown, find, rule_of, looks, serves_data, serves_key, is_home, is_mask, bars_write, bars_seek};
 ghost use Rattle.table.specs.declared.{Licence.Licence, Writing.Writing, Bar.Bar, Act.Act, Write.Write, Aim.Aim, Names.Names, Serves.Serves};
 
 // What satisfies a search: equal, the track's higher, or either.
-#[derive(Drop)]
+#[derive(Clone, Copy)]
 pub enum How {
     IfEqual,
     IfHigh,
@@ -13,7 +15,7 @@ pub enum How {
 
 // Which command must come before: any; a search or a read; Write HA, or Search HA equal over its field; Write R0, Write Count Key Data, or 31 or 29
 // equal over their field; 31 or 29 equal so; 31 equal so.
-#[derive(Drop)]
+#[derive(Clone, Copy)]
 pub enum Licence {
     Any,
     Look,
@@ -24,7 +26,7 @@ pub enum Licence {
 }
 
 // The writes that a mask tells apart: 19 and 15; 1D; 05 and 0D.
-#[derive(Drop)]
+#[derive(Clone, Copy)]
 pub enum Writing {
     HomeOrR0,
     CountKeyData,
@@ -32,7 +34,7 @@ pub enum Writing {
 }
 
 // The seeks that a mask tells apart: 07, 0B, 1B.
-#[derive(Drop)]
+#[derive(Clone, Copy)]
 pub enum Seeking {
     Seek,
     SeekCylinder,
@@ -40,7 +42,7 @@ pub enum Seeking {
 }
 
 // Which bits of the file mask bar it.
-#[derive(Drop)]
+#[derive(Clone, Copy)]
 pub enum Bar {
     Nothing,
     Seeks(Seeking),
@@ -49,7 +51,7 @@ pub enum Bar {
 
 // Which record it takes: none, the head stays; the home address, or R0, at the index point; the next by Search ID's rule; the next; the record
 // selected, if the command before serves Read Data, or else the next; so, if it serves Read Key and Data and searches by key; the record selected.
-#[derive(Drop)]
+#[derive(Clone, Copy)]
 pub enum Aim {
     Stays,
     HomeAddress,
@@ -62,7 +64,7 @@ pub enum Aim {
 }
 
 // Which areas it reads: none; the home address; of the record its count, with the key or not, with the data or not.
-#[derive(Drop)]
+#[derive(Clone, Copy)]
 pub enum Names {
     Nothing,
     HomeAddress,
@@ -70,14 +72,14 @@ pub enum Names {
 }
 
 // Whom the record that it leaves selected serves: nobody; Read Data; also Read Key and Data and the searches by key.
-#[derive(Drop)]
+#[derive(Clone, Copy)]
 pub enum Serves {
     Nobody,
     Data,
     DataAndKey,
 }
 
-#[derive(Drop)]
+#[derive(Clone, Copy)]
 pub enum Control {
     Unknown,
     NoOp,
@@ -88,7 +90,7 @@ pub enum Control {
 }
 
 // The last one writes data, with the key or not.
-#[derive(Drop)]
+#[derive(Clone, Copy)]
 pub enum Write {
     HomeAddress,
     R0,
@@ -97,7 +99,7 @@ pub enum Write {
 }
 
 // What it does with what it has read: a search compares it with the bytes sent; a read gives its bytes, of a count 8 or none.
-#[derive(Drop)]
+#[derive(Clone, Copy)]
 pub enum Act {
     Control(Control),
     Search(How),
@@ -106,7 +108,7 @@ pub enum Act {
 }
 
 // A row of the table. It may leave its record selected; DL = 0 may be Unit Exception; it may clear sense first.
-#[derive(Drop)]
+#[derive(Clone, Copy)]
 pub struct Rule {
     pub licence: Licence,
     pub bar: Bar,

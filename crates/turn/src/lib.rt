@@ -1,9 +1,10 @@
 // What a command does, without the bytes and cells of it.
+#![tactic(auto)]
 use held::{Orders, Position};
 use rows::Row;
 
 // How a command ended.
-#[derive(Drop)]
+#[derive(Clone, Copy)]
 pub enum Ending {
     Normal,
     Satisfied,
@@ -12,7 +13,7 @@ pub enum Ending {
 }
 
 // The bytes that move: none, and length does not count; so many that it gives; so many that it takes of those sent.
-#[derive(Drop)]
+#[derive(Clone, Copy)]
 pub enum Transfer {
     None,
     Gives(u32),
@@ -20,7 +21,7 @@ pub enum Transfer {
 }
 
 // How a command ends, how many bytes move, and what is held then.
-#[derive(Drop)]
+#[derive(Clone, Copy)]
 pub struct Report {
     pub ending: Ending,
     pub transfer: Transfer,

@@ -1,4 +1,6 @@
 // The channel's words in storage: address word, command words with their program checks, status word.
+#![tactic(auto)]
+
 ghost use Rattle.std.specs.Prelude.{◌≡◌, List, ℕ, ◌+◌, length};
 ghost use Rattle.cells.specs.Cells.{be16, be24};
 ghost use Rattle.words.specs.Words.{along, begun_by, word_at, tested_command, tested_word, tested, Storable, stored, status_for, channel_for, program_check};
@@ -31,7 +33,7 @@ const TIC: u8 = 8;
 pub const PROGRAM_CHECK: u8 = 0x20;
 
 // A command word.
-#[derive(Drop)]
+#[derive(Clone, Copy)]
 pub struct Word {
     pub code: u8,
     pub address: u32,
@@ -40,14 +42,14 @@ pub struct Word {
 }
 
 // What the address word says: a chain's key and its first word's address, or that it is bad.
-#[derive(Drop)]
+#[derive(Clone, Copy)]
 pub enum Begun {
     Begins { key: u8, first: u32 },
     Refused,
 }
 
 // Why a word is a program check, in the order of the tests.
-#[derive(Drop)]
+#[derive(Clone, Copy)]
 pub enum Cause {
     Place,
     TicAfterTic,
@@ -58,7 +60,7 @@ pub enum Cause {
 }
 
 // What the tests of a word come to: a command to obey, a TIC to an address, or a program check.
-#[derive(Drop)]
+#[derive(Clone, Copy)]
 pub enum Tested {
     Obey(Word),
     Jump(u32),
@@ -66,7 +68,7 @@ pub enum Tested {
 }
 
 // A status word.
-#[derive(Drop)]
+#[derive(Clone, Copy)]
 pub struct Status {
     pub key: u8,
     pub address: u32,

@@ -1,0 +1,16 @@
+-- `hunt::space_record` meets its contract: 7 after home address work, else by the next record.
+use mathlib.Core.Path.{sym, ◌∙◌}
+use Rattle.hunt.specs.Hunt.{spaced_to}
+use Rattle.hunt.proofs.Laws.{spaced_home, spaced_to_lem}
+use Rattle.hunt.proofs.space_record.Goals as goal
+
+pub returns-then-after_home : goal.returns-then-after_home
+returns-then-after_home c = spaced_home _ _ _ c.if-after_home.true
+
+pub returns-in-ComesTo : goal.returns-in-ComesTo
+unfolding spaced_to
+returns-in-ComesTo c = c.count_first.ensures ∙ spaced_to_lem _ _ _ _ c.if-after_home.false (sym c.next_record.ensures ∙ c.in-ComesTo.is)
+
+pub returns-in-NoMarker : goal.returns-in-NoMarker
+unfolding spaced_to
+returns-in-NoMarker c = spaced_to_lem _ _ _ _ c.if-after_home.false (sym c.next_record.ensures ∙ c.in-NoMarker.is)
