@@ -53,7 +53,7 @@ def gather(pieces):
             out.append(["use", first, notes, piece])
             continue
         m = re.match(r"((?:abbrev |pub |unfoldable )*)(\S+)( :|$)", first)
-        if first.startswith(("record ", "data ", "module ", "pub record", "pub data", "ruleset", "pub ruleset", "mutual", "open ")):
+        if first.startswith(("record ", "data ", "module ", "pub record ", "pub data ", "ruleset", "pub ruleset", "mutual", "open ")):
             out.append(["block", first, notes, piece])
         elif m and m.group(3) == " :":
             out.append(["def", m.group(2), notes, piece, [], []])
@@ -109,6 +109,9 @@ class Turn:
             if hit and n:
                 return ["c"] + hit.split(".") + rest[n:]
         new = steps.get(alike(first))
+        if new is None:
+            same = {v for k, v in steps.items() if re.sub(r"\d+$", "", k) == re.sub(r"\d+$", "", alike(first))}
+            new = same.pop() if len(same) == 1 else None
         if new is None:
             self.said.append(f"no step {first}")
             return ["c", first] + rest

@@ -1,5 +1,6 @@
 // The areas of a track: where each lies, whether it is readable, a count area's values, the flag bytes of what is written.
 #![tactic(auto)]
+
 ghost use Rattle.std.specs.Prelude.{◌≡◌, ◌+◌, ◌*◌, ◌<◌, get_or};
 ghost use Rattle.cells.specs.Cells.{byte_of};
 ghost use Rattle.areas.specs.Areas.{area, readable, row_of, home_area, count_area, counts_at, read_count, key_cells, data_bytes, key_area, data_area, record_cells, end_by, needed, flag_of_r0, flag_after};

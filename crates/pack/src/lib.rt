@@ -1,5 +1,6 @@
 // A pack of tracks, lent as one slice of cells: its shape, a seek's address, and where a track lies.
 #![tactic(auto)]
+
 ghost use Rattle.std.specs.Prelude.{◌≡◌, ◌+◌, ◌*◌, ◌≤◌};
 ghost use Rattle.cells.specs.Cells.{track_cells};
 ghost use Rattle.pack.specs.Pack.{from1_to, pack_fits, seek_to, seek_head, most_cylinders, most_heads, OnPack, start_of};
