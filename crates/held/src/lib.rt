@@ -1,5 +1,6 @@
 // What the box holds from call to call, and the 64 bytes that a host keeps of it.
 #![tactic(auto)]
+
 ghost use Rattle.std.specs.Prelude.{◌≡◌, ◌+◌, ◌/◌, ◌%◌, ◌<◌, ◌≤◌, eqb, length, get_or, drop};
 ghost use Rattle.cells.specs.Cells.{pick, be16, overlay, padded, part};
 ghost use Rattle.held.specs.Held.{fresh, rested, held_bytes, bit, selection_no, selection_cell, encoded, all_zero, flags_fit, selection_encoded, encodes, is_set, selection_in, be32, decoded, kept};

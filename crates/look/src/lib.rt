@@ -1,5 +1,6 @@
 // A look at one track, without a box: the next marker, and each area, where it lies and whether it is readable.
 #![tactic(auto)]
+
 ghost use Rattle.std.specs.Prelude.{◌≡◌, length};
 ghost use Rattle.areas.specs.Areas.{read_count};
 ghost use Rattle.look.specs.Look.{marked, marked_no, marker_call, looks_at, key_look, data_look, part_look, part_of, call_fits, lies, looked, looked_of, area_call};

@@ -1,5 +1,6 @@
 // Areas recorded on a track with their checks, and gaps to a track's end.
 #![tactic(auto)]
+
 ghost use Rattle.std.specs.Prelude.{◌≡◌, [], ◌∷◌, ◌+◌, ◌<◌, ◌≤◌, length};
 ghost use Rattle.cells.specs.Cells.{overlay, part, padded, bytes_of, cells_of, cell_of};
 ghost use Rattle.house_check.specs.Check.{sixteen, check};

@@ -1,0 +1,9 @@
+-- Where the data lies goes by the counts that were read; none were, and it is not known.
+use Rattle.look.proofs.Laws.{data_there, data_not_known}
+use Rattle.look.proofs.look_data.Goals as goal
+
+pub returns-in-Reads : goal.returns-in-Reads
+returns-in-Reads c = data_there _ _ _ c.read_count.ensures _ c.in-Reads.is _ _ c.data_area.ensures c.look_at.ensures
+
+pub returns-in-Fails : goal.returns-in-Fails
+returns-in-Fails c = data_not_known _ _ _ c.read_count.ensures c.in-Fails.is
