@@ -90,6 +90,9 @@ class Turn:
             steps[alike(p[2][0])] = p[2][1]
             for a, b in p[4] or []:
                 fields[(alike(p[2][0]), a)] = b
+            names = self.facts["params"].get(p[3]) or []
+            for k, name in enumerate(names):
+                fields[(alike(p[2][0]), f"auto.{k}")] = f"auto.{name}"
             arm = self.facts["arms"][i]
             if arm:
                 for new, step, path in arm[2]:
@@ -117,6 +120,8 @@ class Turn:
             return ["c", first] + rest
         if rest and (alike(first), rest[0]) in fields:
             rest = [fields[(alike(first), rest[0])]] + rest[1:]
+        if len(rest) > 1 and (alike(first), ".".join(rest[:2])) in fields:
+            rest = fields[(alike(first), ".".join(rest[:2]))].split(".") + rest[2:]
         if rest and re.match(r"keys\d*$", rest[0]) and new.startswith("in"):
             rest = [f"{new}-own"] + rest
         return ["c", new] + rest

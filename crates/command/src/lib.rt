@@ -1,5 +1,6 @@
 // What a command finds out before it acts.
 #![tactic(auto)]
+
 use areas::Counts;
 use held::{Orders, Position, Selection};
 use pack::Head;

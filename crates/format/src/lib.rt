@@ -1,5 +1,6 @@
 // What a write lays on a track: areas of the bytes sent, a new record, and which cells an update may go over.
 #![tactic(auto)]
+
 ghost use Rattle.std.specs.Prelude.{◌≡◌, [], ◌∷◌, ◌+◌, ◌<◌, ◌≤◌, length};
 ghost use Rattle.cells.specs.Cells.{overlay, part, track_cells, marker};
 ghost use Rattle.recording.specs.Recording.{area_written, Lies};

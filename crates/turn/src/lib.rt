@@ -1,5 +1,6 @@
 // What a command does, without the bytes and cells of it.
 #![tactic(auto)]
+
 use held::{Orders, Position};
 use rows::Row;
 
