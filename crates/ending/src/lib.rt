@@ -1,5 +1,6 @@
 // What is reported at a command's end.
 #![tactic(auto)]
+
 ghost use Rattle.std.specs.Prelude.{◌≡◌, List, ℕ};
 ghost use Rattle.turn.specs.Turn.{Tracks, report_of};
 ghost use Rattle.command.specs.Command.{ending_of, sense_after, position_after, orders_after, sight, fail_turn};

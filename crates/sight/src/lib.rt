@@ -1,5 +1,6 @@
 // What a command reads: of a record its count area, then every area it names, all checked before any byte moves.
 #![tactic(auto)]
+
 ghost use Rattle.std.specs.Prelude.{◌≡◌, ◌∷◌, [], ltb};
 ghost use Rattle.cells.specs.Cells.{both};
 ghost use Rattle.areas.specs.Areas.{home_area};

@@ -1,5 +1,6 @@
 // Which record a command works on, by its row, the markers and what is held; or the row of the Unit Check table that ends it first.
 #![tactic(auto)]
+
 ghost use Rattle.std.specs.Prelude.{◌≡◌, ◌≤◌};
 ghost use Rattle.cells.specs.Cells.{track_cells, marks, pick, either};
 ghost use Rattle.rows.specs.declared.{Row.Row};
