@@ -1,5 +1,6 @@
 // The control commands.
 #![tactic(auto)]
+
 ghost use Rattle.std.specs.Prelude.{◌≡◌, List, ℕ, ◌+◌, ◌-◌, ◌≤◌, min, length, get_or};
 ghost use Rattle.cells.specs.Cells.{be16};
 ghost use Rattle.hunt.specs.Hunt.{WholeTrack};

@@ -1,5 +1,6 @@
 // The reads: how they end, and the bytes that they give.
 #![tactic(auto)]
+
 ghost use Rattle.std.specs.Prelude.{◌≡◌, List, false, ℕ, ◌+◌, ◌≤◌, length};
 ghost use Rattle.cells.specs.Cells.{pick, overlay, part, bytes_of};
 ghost use Rattle.turn.specs.Turn.{alone, filled, given};

@@ -1,5 +1,6 @@
 // The searches.
 #![tactic(auto)]
+
 ghost use Rattle.std.specs.Prelude.{◌≡◌, ◌+◌, ◌≤◌, length, leb};
 ghost use Rattle.cells.specs.Cells.{pick, both, part, bytes_of};
 ghost use Rattle.areas.specs.Areas.{count_cells};

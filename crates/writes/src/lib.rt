@@ -1,5 +1,6 @@
 // The writes: how each ends, and the cells that it lays on the track under the head.
 #![tactic(auto)]
+
 ghost use Rattle.std.specs.Prelude.{◌≡◌, true, false, List, ◌∷◌, ℕ, ◌<◌};
 ghost use Rattle.cells.specs.Cells.{padded, overlay, marker};
 ghost use Rattle.house_check.specs.Check as House;

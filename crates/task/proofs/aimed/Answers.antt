@@ -1,29 +1,26 @@
 -- A line an aim, as in the model; the last arm's three aims are at the next record, unless the command before serves them.
 use mathlib.Core.Path.{◌≡◌, refl, ◌∙◌}
-use mathlib.Core.List.{[], ◌∷◌}
-use types.Run.{OneOf, miss}
-use denote.Enum.Declared.{tag_of}
 use native.Mathlib.Omega.{arith}
 use Rattle.hunt.specs.Hunt.{count_first}
 use Rattle.held.specs.declared.{Position.Position, Orders.Orders}
 use Rattle.table.specs.declared.{Aim.Aim, Rule.Rule}
-use Rattle.table.specs.contracts.Aim.{the_type}
 use Rattle.command.specs.Command.{Marks, to_served, aimed}
 use Rattle.task.specs.Inside.{is_served}
 use Rattle.task.proofs.Laws.{selected_place_lem}
 use Rattle.task.proofs.aimed.Goals as goal
 
 next-aimed : (r : Rule) (m : Marks) (s : Position) (o : Orders) (a : Aim)
-    → OneOf (4 ∷ 5 ∷ 6 ∷ []) (tag_of the_type a) → to_served r m s o (is_served a o.before) ≡ aimed r m s o a
+    → (a ≡ Aim.Stays → ⊥) → (a ≡ Aim.HomeAddress → ⊥) → (a ≡ Aim.R0 → ⊥) → (a ≡ Aim.NextId → ⊥) → (a ≡ Aim.Selected → ⊥)
+    → to_served r m s o (is_served a o.before) ≡ aimed r m s o a
 unfolding aimed to_served is_served
-next-aimed r m s o Aim.Next k = refl
-next-aimed r m s o Aim.NextForData k = refl
-next-aimed r m s o Aim.NextForKey k = refl
-next-aimed r m s o Aim.Stays k = absurd (miss (4 ∷ 5 ∷ 6 ∷ []) 0 tt k)
-next-aimed r m s o Aim.HomeAddress k = absurd (miss (4 ∷ 5 ∷ 6 ∷ []) 1 tt k)
-next-aimed r m s o Aim.R0 k = absurd (miss (4 ∷ 5 ∷ 6 ∷ []) 2 tt k)
-next-aimed r m s o Aim.NextId k = absurd (miss (4 ∷ 5 ∷ 6 ∷ []) 3 tt k)
-next-aimed r m s o Aim.Selected k = absurd (miss (4 ∷ 5 ∷ 6 ∷ []) 7 tt k)
+next-aimed r m s o Aim.Next v w x y z = refl
+next-aimed r m s o Aim.NextForData v w x y z = refl
+next-aimed r m s o Aim.NextForKey v w x y z = refl
+next-aimed r m s o Aim.Stays v w x y z = absurd (v refl)
+next-aimed r m s o Aim.HomeAddress v w x y z = absurd (w refl)
+next-aimed r m s o Aim.R0 v w x y z = absurd (x refl)
+next-aimed r m s o Aim.NextId v w x y z = absurd (y refl)
+next-aimed r m s o Aim.Selected v w x y z = absurd (z refl)
 
 pub on_record-requires : goal.on_record-requires
 unfolding count_first
@@ -53,4 +50,4 @@ unfolding aimed
 returns-in-Selected c = rw c.in-Selected.is c.on_selected.ensures
 
 pub returns-in_default : goal.returns-in_default
-returns-in_default c = rw (← c.is_served.ensures) c.to_served.ensures ∙ next-aimed _ _ _ _ _ c.in_default.in_default-own.keys6
+returns-in_default c = rw (← c.is_served.ensures) c.to_served.ensures ∙ next-aimed _ _ _ _ _ c.in_default.not-Stays c.in_default.not-HomeAddress c.in_default.not-R0 c.in_default.not-NextId c.in_default.not-Selected

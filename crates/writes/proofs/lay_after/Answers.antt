@@ -1,0 +1,15 @@
+-- Marker, count, key and data are laid, then gaps to the end. What has room begins and ends on the track.
+use native.Mathlib.Omega.{arith}
+use Rattle.writes.proofs.Calls.{record_in, record_ends, record_formatted}
+use Rattle.writes.proofs.lay_after.Goals as goal
+
+pub overflow_cast-at : goal.overflow_cast-at
+overflow_cast-at c = record { fits = omega (arith, record_in _ _ _ c.requires.0 _ c.new_counts-n.ensures _ c.requires.1) }
+
+pub lay_marked-requires : goal.lay_marked-requires
+lay_marked-requires c =
+    (omega (arith, record_in _ _ _ c.requires.0 _ c.new_counts-n.ensures _ c.requires.1), record_ends _ _ _ c.requires.0 _ c.new_counts-n.ensures _ c.requires.1)
+
+pub returns : goal.returns
+returns c =
+    record_formatted _ _ _ c.requires.0 _ c.new_counts-n.ensures _ c.requires.1 _ _ _ c.lay_marked.ensures c.cells_needed.ensures c.wipe.ensures
