@@ -1,5 +1,6 @@
 // The unit: what a command comes to before it acts, what it then tells, gives and lays. It is lent one track, the bytes sent, and room for bytes.
 #![tactic(auto)]
+
 ghost use Rattle.std.specs.Prelude.{◌≡◌, List, ℕ};
 ghost use Rattle.cells.specs.Cells.{marks};
 ghost use Rattle.hunt.specs.Hunt.{WholeTrack};
