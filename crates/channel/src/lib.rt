@@ -1,5 +1,6 @@
 // The channel about a command.
 #![tactic(auto)]
+
 ghost use Rattle.std.specs.Prelude.{◌≡◌, ◌+◌, ◌<◌, ◌≤◌, length};
 ghost use Rattle.cells.specs.Cells.{marks};
 ghost use Rattle.turn.specs.Turn.{alone, given, wants, report_of, lay, is_check};

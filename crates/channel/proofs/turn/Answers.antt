@@ -1,0 +1,16 @@
+-- A row ends the command, or its job acts, all of whose areas were readable.
+use mathlib.Core.Path.{sym, ◌∙◌}
+use Rattle.command.proofs.Comes.{job_sighted}
+use Rattle.channel.proofs.Turns.{row_turned, job_turned}
+use Rattle.channel.proofs.turn.Goals as goal
+
+pub act-requires : goal.act-requires
+act-requires c =
+    let p = c.requires in
+    (p.0, p.1, job_sighted _ _ _ _ _ (sym c.in-Acts.is ∙ c.ready.ensures))
+
+pub returns-in-Refuses : goal.returns-in-Refuses
+returns-in-Refuses c = row_turned _ _ _ _ _ _ c.ready.ensures _ _ c.in-Refuses.is c.failed.ensures
+
+pub returns-in-Acts : goal.returns-in-Acts
+returns-in-Acts c = job_turned _ _ _ _ _ _ c.ready.ensures _ _ _ _ c.in-Acts.is c.act.ensures
