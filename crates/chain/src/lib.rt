@@ -1,5 +1,6 @@
 // A chain: one command word after another.
 #![tactic(auto)]
+
 ghost use Rattle.std.specs.Prelude.{◌≡◌, true, false, ℕ, ◌<◌, ◌≤◌};
 ghost use Rattle.words.specs.Words.{AreaFits, tested};
 ghost use Rattle.channel.specs.Channel.{world};

@@ -1,0 +1,22 @@
+-- `chain::step` meets its contract: what the word's tests say decides which call, and each leaves what the model has there.
+use Rattle.chain.proofs.Fits.{key_in, channeled}
+use native.Mathlib.Omega.{arith}
+use Rattle.chain.proofs.Laws.{step_obeys, step_jumps, step_ends, word-reaches}
+use Rattle.chain.proofs.step.Goals as goal
+
+pub command-requires : goal.command-requires
+command-requires c = (c.requires, word-reaches _ _ _ _ _ c.test.ensures c.in-Obey.is)
+
+pub stop-requires : goal.stop-requires
+stop-requires c =
+    let p = c.requires in
+    (omega (arith, p.room), key_in _ (channeled _ _ p))
+
+pub returns-in-Obey : goal.returns-in-Obey
+returns-in-Obey c = step_obeys _ _ _ _ _ _ c.test.ensures _ _ _ c.in-Obey.is c.command.ensures
+
+pub returns-in-Jump : goal.returns-in-Jump
+returns-in-Jump c = step_jumps _ _ _ _ _ _ c.test.ensures _ c.in-Jump.is c.jump.ensures
+
+pub returns-in-Bad : goal.returns-in-Bad
+returns-in-Bad c = step_ends _ _ _ _ _ _ c.test.ensures _ _ c.in-Bad.is c.stop.ensures.0 c.stop.ensures.1
