@@ -1,5 +1,6 @@
 // What a host calls: start, and go.
 #![tactic(auto)]
+
 ghost use Rattle.std.specs.Prelude.{◌≡◌, List, ℕ, ◌≤◌, length, false};
 ghost use Rattle.cells.specs.Cells.{pick, marks};
 ghost use Rattle.words.specs.Words.{begun_by, tested};
