@@ -1,5 +1,6 @@
 // The box, and a look at a track, under names that C and Rust link. Nothing is required of any caller.
 #![tactic(auto)]
+
 ghost use Rattle.std.specs.Prelude.{◌≡◌, length, eqb};
 ghost use Rattle.cells.specs.Cells.{pick};
 ghost use Rattle.held.specs.Held.{fresh, held_bytes, encoded, bit};
@@ -10,8 +11,7 @@ use held::{Held, Kept};
 use pack::Shape;
 
 // The fresh box: 1 if it was written, 0 with nothing written if the length is wrong.
-#[unsafe(no_mangle)]
-pub extern "C" fn poplar_fresh(bytes: &mut [u8]) -> u8
+pub fn poplar_fresh(bytes: &mut [u8]) -> u8
     ensures { (result ≡ bit (eqb (length bytes.old) held_bytes))
         × (bytes.new ≡ pick (eqb (length bytes.old) held_bytes) (encoded fresh) bytes.old) }
 {
@@ -22,8 +22,7 @@ pub extern "C" fn poplar_fresh(bytes: &mut [u8]) -> u8
 }
 
 // Starts a chain.
-#[unsafe(no_mangle)]
-pub extern "C" fn poplar_start(
+pub fn poplar_start(
     bytes: &mut [u8],
     storage: &mut [u8],
     cells: &mut [u16],
@@ -46,8 +45,7 @@ pub extern "C" fn poplar_start(
 }
 
 // Goes on with a chain, for at most so many command words.
-#[unsafe(no_mangle)]
-pub extern "C" fn poplar_go(
+pub fn poplar_go(
     bytes: &mut [u8],
     storage: &mut [u8],
     cells: &mut [u16],
@@ -71,16 +69,14 @@ pub extern "C" fn poplar_go(
 }
 
 // The first marker of a track at or after a place.
-#[unsafe(no_mangle)]
-pub extern "C" fn poplar_marker(track: &[u16], place: u16) -> u16
+pub fn poplar_marker(track: &[u16], place: u16) -> u16
     ensures { result ≡ marker_call track.now place }
 {
     look::marker(track, place)
 }
 
 // One area of a track: where it lies, and whether it is readable.
-#[unsafe(no_mangle)]
-pub extern "C" fn poplar_area(track: &[u16], record: u16, part: u8, area: &mut [u32]) -> u8
+pub fn poplar_area(track: &[u16], record: u16, part: u8, area: &mut [u32]) -> u8
     ensures { looked result area.new ≡ area_call track.now «record» part area.old }
 {
     look::area(track, record, part, area)

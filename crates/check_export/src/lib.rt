@@ -1,5 +1,6 @@
 // The check under a name that a program in Rust can link: for the benchmark only.
 #![tactic(auto)]
+
 ghost use Rattle.std.specs.Prelude.{◌≡◌};
 ghost use Rattle.cells.specs.Cells.{bytes_of};
 ghost use Rattle.house_check.specs.Check.{check};

@@ -1,47 +1,60 @@
 // The figures of document 01 that are run and not proved, each by a function of its own, which writes its lines.
 #![tactic(auto)]
-ghost use Rattle.std.specs.Prelude.{◌+◌, ◌<◌, ◌≤◌, length};
+
+ghost use Rattle.std.specs.Prelude.{◌+◌, ◌<◌, ◌≤◌, length, IfOk};
 
 use held::Held;
-use libc::{STDIN_FILENO, STDOUT_FILENO};
 use pack::Shape;
 use rows::Sense;
+use std::io::{self, Read, Write};
 
-fn main() {
-    figure_10();
-    figure_11();
-    figure_12();
+fn main(rt: HostRuntime) -> io::Result<()> {
+    let mut input = rt.stdin();
+    let mut out = rt.stdout();
+    figure_10(&mut input, &mut out)?;
+    figure_11(&mut out)?;
+    figure_12(&mut out)
 }
 
 // The check over a text: the text is standard input.
-fn figure_10() {
+fn figure_10<R: Read, W: Write>(input: &mut R, out: &mut W) -> io::Result<()> {
     // A byte more than the longest text, so that one that is too long is seen.
     let mut buffer = [0u8; 65];
-    let n = io::read_full(STDIN_FILENO, &mut buffer);
+    let n = read_full(input, &mut buffer)?;
     if n == 0 {
-        io::write_all(STDOUT_FILENO, b"10. Refused: no text on standard input.\n");
-        return;
+        return out.write_all(b"10. Refused: no text on standard input.\n");
     }
     if n > 64 {
-        io::write_all(
-            STDOUT_FILENO,
-            b"10. Refused: more than 64 bytes on standard input.\n",
-        );
-        return;
+        return out.write_all(b"10. Refused: more than 64 bytes on standard input.\n");
     }
     let mut track = [0u16; 66];
-    check_line(&buffer[..n], &mut track);
+    check_line(out, &buffer[..n], &mut track)
 }
 
-fn check_line(text: &[u8], track: &mut [u16])
+// Reads until the buffer is full or the input ends: how many bytes were read.
+fn read_full<R: Read>(input: &mut R, buffer: &mut [u8]) -> io::Result<usize>
+    ensures { IfOk result (λ n. n ≤ length buffer.new) }
+{
+    let mut done = 0;
+    while done < buffer.len() {
+        let n = input.read(&mut buffer[done..])?;
+        if n == 0 {
+            break;
+        }
+        done += n;
+    }
+    Ok(done)
+}
+
+fn check_line<W: Write>(out: &mut W, text: &[u8], track: &mut [u16]) -> io::Result<()>
     requires { length text.now + 2 ≤ length track.old }
 {
     let check = recorded_check(text, track);
-    io::write_all(STDOUT_FILENO, b"10. Check over the text ");
-    io::write_all(STDOUT_FILENO, text);
-    io::write_all(STDOUT_FILENO, b" is ");
-    io::write_all(STDOUT_FILENO, &hex(check));
-    io::write_all(STDOUT_FILENO, b".\n");
+    out.write_all(b"10. Check over the text ")?;
+    out.write_all(text)?;
+    out.write_all(b" is ")?;
+    out.write_all(&hex(check))?;
+    out.write_all(b".\n")
 }
 
 // The check that the writer records behind a text.
@@ -72,7 +85,7 @@ fn digit(d: u16) -> u8
 }
 
 // Three records, the head at place 0, and a Search ID that none of them satisfies, with a TIC back to it.
-fn figure_11() {
+fn figure_11<W: Write>(out: &mut W) -> io::Result<()> {
     let mut cells = [0u16; cells::TRACK_CELLS];
     lay_track(&mut cells);
     let mut storage = [0u8; 160];
@@ -84,19 +97,21 @@ fn figure_11() {
     let started = host::start(g, Held::fresh(), &mut storage, &cells);
     // Eight searches and the TICs between them; then a TIC, and the ninth.
     let eighth = host::go(g, started.held, &mut storage, &mut cells, 15);
-    io::write_all(STDOUT_FILENO, b"11. The 8th Search ID in a row: ");
+    out.write_all(b"11. The 8th Search ID in a row: ")?;
     search_line(
+        out,
         eighth.held.channel.going,
         eighth.held.position.sense,
         &storage,
-    );
+    )?;
     let ninth = host::go(g, eighth.held, &mut storage, &mut cells, 2);
-    io::write_all(STDOUT_FILENO, b"11. The 9th Search ID in a row: ");
+    out.write_all(b"11. The 9th Search ID in a row: ")?;
     search_line(
+        out,
         ninth.held.channel.going,
         ninth.held.position.sense,
         &storage,
-    );
+    )
 }
 
 // Home address, R0 with eight bytes of data, and three records of one byte.
@@ -134,42 +149,41 @@ fn lay_chain(storage: &mut [u8])
     storage[144] = 0xFF;
 }
 
-fn search_line(going: bool, sense: Sense, storage: &[u8]) {
-    going_text(going);
-    io::write_all(STDOUT_FILENO, b", sense ");
-    io::write_all(STDOUT_FILENO, &hex(cells::pair(sense.byte0, sense.byte1)));
-    io::write_all(STDOUT_FILENO, b", status word");
-    status_pair(storage, 64);
-    status_pair(storage, 66);
-    status_pair(storage, 68);
-    status_pair(storage, 70);
-    io::write_all(STDOUT_FILENO, b".\n");
+fn search_line<W: Write>(out: &mut W, going: bool, sense: Sense, storage: &[u8]) -> io::Result<()> {
+    going_text(out, going)?;
+    out.write_all(b", sense ")?;
+    out.write_all(&hex(cells::pair(sense.byte0, sense.byte1)))?;
+    out.write_all(b", status word")?;
+    status_pair(out, storage, 64)?;
+    status_pair(out, storage, 66)?;
+    status_pair(out, storage, 68)?;
+    status_pair(out, storage, 70)?;
+    out.write_all(b".\n")
 }
 
-fn going_text(going: bool) {
+fn going_text<W: Write>(out: &mut W, going: bool) -> io::Result<()> {
     if going {
-        io::write_all(STDOUT_FILENO, b"goes on");
-        return;
+        return out.write_all(b"goes on");
     }
-    io::write_all(STDOUT_FILENO, b"ends the chain");
+    out.write_all(b"ends the chain")
 }
 
 // Two bytes of the status word.
-fn status_pair(storage: &[u8], at: usize)
+fn status_pair<W: Write>(out: &mut W, storage: &[u8], at: usize) -> io::Result<()>
     requires { at < 80 }
 {
     let high = cells::byte_at(storage, at);
     let low = cells::byte_at(storage, at + 1);
-    io::write_all(STDOUT_FILENO, b" ");
-    io::write_all(STDOUT_FILENO, &hex(cells::pair(high, low)));
+    out.write_all(b" ")?;
+    out.write_all(&hex(cells::pair(high, low)))
 }
 
 // Storage of 79 and of 80 bytes, all zero: the least storage is 80, and there a start finds a word with count 0.
-fn figure_12() {
-    io::write_all(STDOUT_FILENO, b"12. Storage of 79 bytes: answer ");
-    answer_line(start_answer(&mut [0u8; 79]));
-    io::write_all(STDOUT_FILENO, b"12. Storage of 80 bytes: answer ");
-    answer_line(start_answer(&mut [0u8; 80]));
+fn figure_12<W: Write>(out: &mut W) -> io::Result<()> {
+    out.write_all(b"12. Storage of 79 bytes: answer ")?;
+    answer_line(out, start_answer(&mut [0u8; 79]))?;
+    out.write_all(b"12. Storage of 80 bytes: answer ")?;
+    answer_line(out, start_answer(&mut [0u8; 80]))
 }
 
 // What a start is answered: a fresh box, and a pack of one track.
@@ -186,9 +200,9 @@ fn start_answer(storage: &mut [u8]) -> u8
     host::number_of(answer)
 }
 
-fn answer_line(number: u8)
+fn answer_line<W: Write>(out: &mut W, number: u8) -> io::Result<()>
     requires { number < 8 }
 {
-    io::write_all(STDOUT_FILENO, &[digit(number as u16)]);
-    io::write_all(STDOUT_FILENO, b".\n");
+    out.write_all(&[digit(number as u16)])?;
+    out.write_all(b".\n")
 }
