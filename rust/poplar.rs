@@ -1,6 +1,6 @@
 //! Poplarstep, the stand-in for the IBM 2841 disk control, as a Rust host uses it.
 //!
-//! The library is proved and built by `rt staticlib box_export`; this file only gives its five functions Rust's types.
+//! The library is proved and built by `rust/build`; this file only gives its five functions Rust's types.
 //! `include/poplar.h` says the same for C. To compile it:
 //!
 //! ```text
