@@ -1,6 +1,6 @@
 /*
  * Poplarstep: the stand-in for the IBM 2841 disk control, as a C host links it (C99; C++ as well).
- * Link with target/staticlib/libbox_export.a, which `rt staticlib box_export` proves and builds.
+ * Link with target/staticlib/libbox_export.a, which `rust/build` proves and builds.
  * docs/REFERENCE.md says all that the box does; REFERENCE 9 the answers, REFERENCE 10 these functions.
  *
  * What the caller lends, for the length of a call only:

@@ -1,13 +1,13 @@
 //! Poplarstep, the stand-in for the IBM 2841 disk control, as a Rust host uses it.
 //!
-//! The library is proved and built by `rust/build`; this file only gives its five functions Rust's types.
+//! The library is proved and built by `rt lib` in `crates/box_export_c`; this file only gives its five functions Rust's types.
 //! `include/poplar.h` says the same for C. To compile it:
 //!
 //! ```text
 //! rustc --edition 2021 --crate-type rlib -L native=target/staticlib rust/poplar.rs
 //! ```
 //!
-//! `rust/build` does both, and compiles those programs beside this file that its arguments name.
+//! `rust/build` does both, under the name `target/staticlib/libbox_export.a`, and compiles those programs beside this file that its arguments name.
 //!
 //! A host keeps a [`Held`] and lends it, the channel's storage and the pack's cells to [`start`] and [`go`]. Every input
 //! gets an [`Answer`]. There is no global state, so boxes on different memory may run in several threads at once.
