@@ -2,19 +2,14 @@
 use mathlib.Core.Path.{◌≡◌, sym}
 use native.Mathlib.Omega.{arith}
 use lib.ListN.{length}
-use borrow.Author.Tests.{eq-eqb, ne_eqb}
+use borrow.Author.Tests.{eq-eqb}
 use Rattle.held.specs.Held.{held_bytes}
 use Rattle.held.proofs.Laws.{both_stored}
 use Rattle.held.proofs.put.Goals as goal
 
-pub returns-then-held-ne-HELD_BYTES : goal.returns-then-held-ne-HELD_BYTES
-returns-then-held-ne-HELD_BYTES c =
-    let e = ne_eqb (length c.args.held.now) held_bytes (λ l. omega arith) in
-    (sym e, rw e)
-
 pub returns : goal.returns
 returns c =
-    let l : length c.args.held.now ≡ held_bytes = omega (arith, c.if-held-ne-HELD_BYTES.false) in
+    let l : length c.args.held.now ≡ held_bytes = omega arith in
     let e = eq-eqb (length c.args.held.now) held_bytes l in
     let laid = both_stored c.args.held.now c.args.h _ _ l c.first_bytes-first.ensures c.second_bytes-second.ensures in
     (sym e, rw (e, c.store-2.ensures, c.store.ensures) laid)
