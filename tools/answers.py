@@ -7,7 +7,6 @@ NAMES.json is what `rt check --generated FOLDER --old-names` writes in the crate
 What it cannot turn it prints.
 """
 
-import glob
 import json
 import os
 import re
