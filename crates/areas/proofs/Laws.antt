@@ -15,8 +15,8 @@ use Rattle.cells.proofs.Laws.{get_or-bytes_of}
 use Rattle.house_check.specs.Check.{agrees, good_cells}
 use Rattle.areas.specs.declared.{Area.Area, Counts.Counts}
 use Rattle.areas.specs.declared.Part.TheVariants.{Data}
-use Rattle.areas.specs.declared.CountRead.TheVariants.{Reads, Fails}
 use Rattle.areas.specs.Areas.{area, home_area, home_flag, count_cells, read_count, data_bytes, data_area, area_cells, readable, area_bytes, count_area, counts_of, counts_at, key_cells}
+use Rattle.std.specs.Prelude.{Some, None}
 
 -- ---- readable
 
@@ -87,13 +87,13 @@ module _ (t : List ℕ) (c : ℕ) (a : Area) (b : Bool) (e : a ≡ count_area c)
   is_it_lem : b ≡ readable t (count_area c)
   is_it_lem = r ∙ ap (readable t) e
 
-  pub count_fails : b ≡ false → Fails ≡ read_count t c
+  pub count_fails : b ≡ false → None ≡ read_count t c
   unfolding read_count
-  count_fails g = ap (λ (x : Bool). pick x (Reads (counts_at t c)) Fails) (sym g ∙ is_it_lem)
+  count_fails g = ap (λ (x : Bool). pick x (Some (counts_at t c)) None) (sym g ∙ is_it_lem)
 
-  pub count-reads : b ≡ true → (n : Counts) → n ≡ counts_at t c → Reads n ≡ read_count t c
+  pub count-reads : b ≡ true → (n : Counts) → n ≡ counts_at t c → Some n ≡ read_count t c
   unfolding read_count
-  count-reads g n f = ap Reads f ∙ ap (λ (x : Bool). pick x (Reads (counts_at t c)) Fails) (sym g ∙ is_it_lem)
+  count-reads g n f = ap Some f ∙ ap (λ (x : Bool). pick x (Some (counts_at t c)) None) (sym g ∙ is_it_lem)
 
 -- ---- how many cells
 

@@ -1,12 +1,12 @@
 -- Document 01, "What lies on a track"; REFERENCE 2.3, 2.4, 2.6: the home address, R0 and the records, where their areas lie, when an area is readable; flag
 -- bytes. A record is known by the first cell of its count area: 7 for R0, the cell after the marker for any other.
-use Rattle.std.specs.Prelude.{ℕ, ◌+◌, max, ◌-◌, ◌*◌, ◌/◌, ◌%◌, Bool, List, get_or, take, eqb}
+use Rattle.std.specs.Prelude.{ℕ, ◌+◌, max, ◌-◌, ◌*◌, ◌/◌, ◌%◌, Bool, List, get_or, take, eqb, Some, None, Option}
 use Rattle.cells.specs.Cells.{pick, be16, part, bytes_of}
 use Rattle.house_check.specs.Check.{check_bytes, good_cells}
 use Rattle.rows.specs.declared.{Row.Row}
 -- Part: Home, Count, Key, Data. Area: part, first (its first cell), bytes (without the two of the check). Counts, what a count area says: flag, cc,
 -- hh, r, kl, dl. CountRead: Reads counts, or Fails where the area is not readable.
-use Rattle.areas.specs.declared.{Part.Part, Area.Area, Counts.Counts, CountRead.CountRead}
+use Rattle.areas.specs.declared.{Part.Part, Area.Area, Counts.Counts}
 
 -- ---- an area
 
@@ -74,8 +74,8 @@ unfoldable pub counts_at : List ℕ → ℕ → Counts
 counts_at t c = counts_of (area_bytes t (count_area c))
 
 -- a count is used only if its area is readable
-unfoldable pub read_count : List ℕ → ℕ → CountRead
-read_count t c = pick (readable t (count_area c)) (CountRead.Reads (counts_at t c)) CountRead.Fails
+unfoldable pub read_count : List ℕ → ℕ → Option Counts
+read_count t c = pick (readable t (count_area c)) (Some (counts_at t c)) None
 
 -- ---- key area KL + 2 bytes, absent if KL = 0; data area DL + 2, one zero byte and the check if DL = 0
 

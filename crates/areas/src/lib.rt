@@ -50,13 +50,6 @@ pub struct Counts {
     pub dl: u16,
 }
 
-// A count area that was read: what it says, or that it is not readable.
-#[derive(Clone, Copy)]
-pub enum CountRead {
-    Reads(Counts),
-    Fails,
-}
-
 // Whether an area is readable.
 pub fn is_readable(track: &[u16], a: Area) -> bool
     ensures { result ≡ readable track.now a }
@@ -122,13 +115,13 @@ fn counts_at(track: &[u16], c: u16) -> Counts
 }
 
 // The count area at a cell, read.
-pub fn read_count(track: &[u16], c: u16) -> CountRead
+pub fn read_count(track: &[u16], c: u16) -> Option<Counts>
     ensures { result ≡ read_count track.now c }
 {
     if is_readable(track, count_area(c)) {
-        return CountRead::Reads(counts_at(track, c));
+        return Some(counts_at(track, c));
     }
-    CountRead::Fails
+    None
 }
 
 fn key_cells(n: Counts) -> u32

@@ -7,7 +7,7 @@ ghost use Rattle.held.specs.Held.{fresh, held_bytes, encoded, bit};
 ghost use Rattle.look.specs.Look.{marker_call, looked, area_call};
 ghost use Rattle.box_export.specs.Calls.{call, shape, start_call, go_call};
 
-use held::{Held, Kept};
+use held::Held;
 use pack::Shape;
 
 // The fresh box: 1 if it was written, 0 with nothing written if the length is wrong.
@@ -34,13 +34,13 @@ pub fn poplar_start(
 {
     let g = Shape { cylinders, heads };
     match held::keep(bytes) {
-        Kept::Holds(h) => {
+        Some(h) => {
             let heard = host::start(g, h, storage, cells);
             held::put(bytes, heard.held);
             let answer = heard.answer;
             host::number_of(answer)
         }
-        Kept::Wrong => host::number_of(host::wrong_held(g, storage.len(), cells.len())),
+        None => host::number_of(host::wrong_held(g, storage.len(), cells.len())),
     }
 }
 
@@ -58,13 +58,13 @@ pub fn poplar_go(
 {
     let g = Shape { cylinders, heads };
     match held::keep(bytes) {
-        Kept::Holds(h) => {
+        Some(h) => {
             let heard = host::go(g, h, storage, cells, allowance);
             held::put(bytes, heard.held);
             let answer = heard.answer;
             host::number_of(answer)
         }
-        Kept::Wrong => host::number_of(host::wrong_held(g, storage.len(), cells.len())),
+        None => host::number_of(host::wrong_held(g, storage.len(), cells.len())),
     }
 }
 

@@ -14,11 +14,12 @@ use Rattle.pack.specs.Pack as Tracks
 use Rattle.command.specs.Command.{most_tally, SelectedOn}
 use Rattle.command.proofs.Plans.{Leaves}
 use Rattle.table.specs.Table.{rule_of, is_mask}
-use Rattle.held.specs.declared.{Selection.Selection, Position.Position, Orders.Orders, Channel.Channel}
-use Rattle.held.specs.declared.Selection.TheVariants.{Nothing, On}
+use Rattle.held.specs.declared.{Position.Position, Orders.Orders, Channel.Channel}
 use Rattle.turn.specs.Turn.{orders_of}
 use Rattle.channel.specs.Channel.{World}
 use Rattle.chain.specs.Step.{track_under, keys, position_fits, channel_fits, selection_fits, orders_fit, held_fits, Legal}
+use Rattle.std.specs.Prelude.{None, Some, Option}
+use Rattle.hunt.specs.declared.{Spot.Spot}
 
 -- ---- where the head stands
 
@@ -54,10 +55,10 @@ module _ (c : Channel) where
 
 -- ---- orders
 
-selection_on : (m : List Bool) (o : Orders) (x : Selection) → selection_fits m o x ≡ true → SelectedOn m x
+selection_on : (m : List Bool) (o : Orders) (x : Option Spot) → selection_fits m o x ≡ true → SelectedOn m x
 unfolding selection_fits SelectedOn
-selection_on m o Nothing e = tt
-selection_on m o (On spot) e = e
+selection_on m o None e = tt
+selection_on m o (Some spot) e = e
 
 module _ (m : List Bool) (o : Orders) where
   pub mask_legal : orders_fit m o ≡ true → is_mask o.mask ≡ true
@@ -73,12 +74,12 @@ module _ (m : List Bool) (o : Orders) where
   selected_on e = selection_on m o o.selection (second_of (leb o.tally most_tally) _ (second_of (is_mask o.mask) _ e))
 
 -- what a command leaves: this code before the next, and nothing selected or a record of the track, by its row
-leaves_fit : (m : List Bool) (o : Orders) (x : Selection) → Leaves m (rule_of o.before).selects x → selection_fits m o x ≡ true
+leaves_fit : (m : List Bool) (o : Orders) (x : Option Spot) → Leaves m (rule_of o.before).selects x → selection_fits m o x ≡ true
 unfolding selection_fits
-leaves_fit m o Nothing e = ap not e
-leaves_fit m o (On spot) e = e
+leaves_fit m o None e = ap not e
+leaves_fit m o (Some spot) e = e
 
-pub ordered_fit : (m : List Bool) (mask : ℕ) (set : Bool) (code : ℕ) (whole : Bool) (tally : ℕ) (x : Selection)
+pub ordered_fit : (m : List Bool) (mask : ℕ) (set : Bool) (code : ℕ) (whole : Bool) (tally : ℕ) (x : Option Spot)
     → is_mask mask ≡ true → tally ≤ most_tally → Leaves m (rule_of code).selects x → orders_fit m (orders_of mask set code whole tally x) ≡ true
 unfolding orders_fit orders_of
 ordered_fit m mask set code whole tally x l h k = both_of l (both_of (le-leb _ _ h) (leaves_fit m (orders_of mask set code whole tally x) x k))

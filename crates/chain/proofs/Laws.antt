@@ -6,8 +6,7 @@ use mathlib.Core.List.{List}
 use native.Mathlib.Omega.{arith}
 use lib.ListN.{length, take, drop}
 use borrow.Rule.Slice.PartMut.{put_mid}
-use Rattle.words.specs.declared.{Word.Word, Cause.Cause, Tested.Tested}
-use Rattle.words.specs.declared.Tested.TheVariants.{Obey}
+use Rattle.words.specs.declared.{Word.Word, Cause.Cause, Directive.Directive}
 use Rattle.words.proofs.Obeys.{TestedIn, tested_in}
 use Rattle.words.specs.Words.{AreaFits, tested, stored, program_check}
 use Rattle.pack.specs.declared.{Shape.Shape}
@@ -22,6 +21,8 @@ use Rattle.channel.specs.Inside.{CanObey}
 use Rattle.chain.specs.Step.{Legal, under, track_under, next, tracks_of, turn_of, settled, obeyed, step_by, step}
 use Rattle.chain.proofs.Fits.{key_in, selected_on, channeled, ordered}
 use Rattle.chain.proofs.Legal.{track_whole, turn-left, put_back}
+use Rattle.std.specs.Prelude.{Ok, Err, Result}
+use Rattle.words.specs.declared.Directive.TheVariants.{Obey}
 
 pub world_eq : {h k : Held} {s t c d : List ℕ} → h ≡ k → s ≡ t → c ≡ d → world h s c ≡ world k t d
 world_eq p q r = λ i. record { held = p i; storage = q i; cells = r i }
@@ -29,25 +30,25 @@ world_eq p q r = λ i. record { held = p i; storage = q i; cells = r i }
 -- ---- a step
 
 -- by what the next word's tests say
-module _ (g : Shape) (h r : Held) (s c : List ℕ) (x : Tested) (next_is : x ≡ tested s h.channel.next h.channel.after_tic) where
-  taken : (v : World) (y : Tested) → x ≡ y → v ≡ step_by g (world h s c) y → v ≡ step g (world h s c)
+module _ (g : Shape) (h r : Held) (s c : List ℕ) (x : Result Directive Cause) (next_is : x ≡ tested s h.channel.next h.channel.after_tic) where
+  taken : (v : World) (y : Result Directive Cause) → x ≡ y → v ≡ step_by g (world h s c) y → v ≡ step g (world h s c)
   unfolding step next
   taken v y q e = e ∙ ap (step_by g (world h s c)) (sym q ∙ next_is)
 
-  pub step_obeys : (w : Word) (u d : List ℕ) → x ≡ Tested.Obey w → world r u d ≡ obeyed g (world h s c) w → world r u d ≡ step g (world h s c)
+  pub step_obeys : (w : Word) (u d : List ℕ) → x ≡ Ok (Directive.Obey w) → world r u d ≡ obeyed g (world h s c) w → world r u d ≡ step g (world h s c)
   unfolding step_by
-  step_obeys w u d q e = taken (world r u d) (Tested.Obey w) q e
+  step_obeys w u d q e = taken (world r u d) (Ok (Directive.Obey w)) q e
 
-  pub step_jumps : (a : ℕ) → x ≡ Tested.Jump a → r ≡ jumped h a → world r s c ≡ step g (world h s c)
+  pub step_jumps : (a : ℕ) → x ≡ Ok (Directive.Jump a) → r ≡ jumped h a → world r s c ≡ step g (world h s c)
   unfolding step_by
-  step_jumps a q e = taken (world r s c) (Tested.Jump a) q (world_eq e refl refl)
+  step_jumps a q e = taken (world r s c) (Ok (Directive.Jump a)) q (world_eq e refl refl)
 
-  pub step_ends : (cause : Cause) (u : List ℕ) → x ≡ Tested.Bad cause → r ≡ rested h.position
+  pub step_ends : (cause : Cause) (u : List ℕ) → x ≡ Err cause → r ≡ rested h.position
       → u ≡ stored s (program_check h.channel.key h.channel.next cause) → world r u c ≡ step g (world h s c)
   unfolding step_by stops
-  step_ends cause u q e f = taken (world r u c) (Tested.Bad cause) q (world_eq e f refl)
+  step_ends cause u q e f = taken (world r u c) (Err cause) q (world_eq e f refl)
 
-pub word-reaches : (s : List ℕ) (at : ℕ) (tic : Bool) (x : Tested) (w : Word) → x ≡ tested s at tic → x ≡ Obey w → AreaFits s w
+pub word-reaches : (s : List ℕ) (at : ℕ) (tic : Bool) (x : Result Directive Cause) (w : Word) → x ≡ tested s at tic → x ≡ Ok (Obey w) → AreaFits s w
 word-reaches s at tic x w p q = record { area = subst (TestedIn s) (sym p ∙ q) (tested_in s at tic) }
 
 -- ---- a command on the track under the head

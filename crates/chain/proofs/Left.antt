@@ -17,30 +17,28 @@ use Rattle.areas.specs.declared.{Counts.Counts}
 use Rattle.areas.specs.Areas.{home_bytes, r0_first, key_area, data_area, record_cells, end_by, needed}
 use Rattle.hunt.specs.declared.{Spot.Spot}
 use Rattle.hunt.specs.Hunt.{WholeTrack, spot_fits, space_record}
-use Rattle.pack.specs.declared.{Head.Head, Shape.Shape, Sought.Sought}
+use Rattle.pack.specs.declared.{Head.Head, Shape.Shape, Cylinder.Cylinder}
 use Rattle.hunt.proofs.Inside.{space_in}
 use Rattle.room.specs.Room.{fits}
 use Rattle.room.proofs.Laws.{fits_ends}
 use Rattle.pack.proofs.Seeks.{SoughtOn, seek_to_on, seek_head_on}
-use Rattle.held.specs.declared.{Selection.Selection, Position.Position, Orders.Orders}
-use Rattle.held.specs.declared.Selection.TheVariants.{Nothing, On}
+use Rattle.held.specs.declared.{Position.Position, Orders.Orders}
 use Rattle.turn.specs.declared.{Ending.Ending}
 use Rattle.turn.specs.declared.Ending.TheVariants.{Normal}
 use Rattle.turn.specs.Turn.{position_at, with_sense, position_sought, after, Tracks, TrackArea, Piece, Moves, Takes, Turn, lay, check_turn}
 use Rattle.format.specs.Format.{new_counts, new_record}
 use Rattle.format.proofs.Laws.{formatted, length-area, length-new, formatted_inside}
 use Rattle.command.specs.Command.{most_tally, named, Marks, marks_of, plan_of, Sight, sight, all_recorded, goes_over, writes_over, fail_turn, position_after, orders_after, end_turn_at, end_turn, ending_of, no_op_turn, sense_turn, sought_by, addressed, arrival_turn, seek_turn, masked_turn, mask_turn, spaced_place, space_turn, field_turn, search_turn, read_turn, piece, to_end, home_turn, record_takes, new_turn, r0_turn, record_turn, over_piece, key_sent, update_turn, control_turn, write_turn, act_turn, job_of, has_read, ready_by, ready_turn, rule_turn, command, task}
-use Rattle.command.specs.declared.{Got.Got, Task.Task, Job.Job, Plan.Plan}
-use Rattle.command.specs.declared.Got.TheVariants.{Sees, Fails}
+use Rattle.command.specs.declared.{Task.Task, Job.Job}
 use Rattle.table.specs.declared.{Control.Control, Write.Write, Act.Act, Rule.Rule, Seeking.Seeking}
 use Rattle.table.specs.Table.{rule_of, is_home, controls, searches, reads, writes, is_mask}
 use Rattle.table.proofs.Laws.{every, each, of_every}
-use Rattle.command.specs.declared.Plan.TheVariants.{Refuses, Works}
 use Rattle.command.proofs.Planned.{takes_record, is_r0}
 use Rattle.command.proofs.Plans.{selects_one, Leaves, NoMarker, TaskOn, PlanOn, PlanFree, plan_on, none_free, r0_free}
 use Rattle.command.proofs.Pieces.{PiecesOn, length-to_end, format_is, update_on}
 use Rattle.chain.specs.Step.{position_fits, orders_fit}
 use Rattle.chain.proofs.Fits.{position_on_lem, place_in, position_fits_lem, mask_legal, selected_on, ordered_fit}
+use Rattle.std.specs.Prelude.{Ok, Err, None, Some, Option, Result}
 
 -- ---- what the table's rows have in common
 
@@ -65,30 +63,30 @@ unfolding tame selects_one takes_record steady steady_write is_r0 every each con
 tame_rule c = of_every tame refl c
 
 -- what is selected where a command acts, by what it does
-abbrev WriteFree : Write → Selection → Type 0
+abbrev WriteFree : Write → Option Spot → Type 0
 WriteFree Write.HomeAddress y = NoMarker y
 WriteFree Write.R0 y = NoMarker y
 WriteFree Write.CountKeyData y = Unit {0}
 WriteFree (Write.Update key) y = NoMarker y
 
-abbrev ActFree : Act → Selection → Type 0
+abbrev ActFree : Act → Option Spot → Type 0
 ActFree (Act.Control a) y = NoMarker y
 ActFree (Act.Search h) y = Unit {0}
 ActFree (Act.Read c) y = Unit {0}
 ActFree (Act.Write w) y = WriteFree w y
 
-abbrev OnPlan : (Selection → Type 0) → Plan → Type 0
-OnPlan P (Refuses row) = Unit {0}
-OnPlan P (Works k) = P k.selection
+abbrev OnPlan : (Option Spot → Type 0) → Result Task Row → Type 0
+OnPlan P (Err row) = Unit {0}
+OnPlan P (Ok k) = P k.selection
 
 -- if no marker is, or whatever is
-free_plan : (p : Plan) → PlanFree p → OnPlan NoMarker p
-free_plan (Refuses row) h = tt
-free_plan (Works k) h = h
+free_plan : (p : Result Task Row) → PlanFree p → OnPlan NoMarker p
+free_plan (Err row) h = tt
+free_plan (Ok k) h = h
 
-any_plan : (p : Plan) → OnPlan (λ y. Unit {0}) p
-any_plan (Refuses row) = tt
-any_plan (Works k) = tt
+any_plan : (p : Result Task Row) → OnPlan (λ y. Unit {0}) p
+any_plan (Err row) = tt
+any_plan (Ok k) = tt
 
 write_free : (r : Rule) (m : Marks) (s : Position) (o : Orders) (w : Write) → steady_write w r ≡ true → OnPlan (WriteFree w) (plan_of r m s o)
 unfolding steady_write
@@ -163,21 +161,21 @@ module _ (g : Shape) (tr : Tracks) (s : Position) (o : Orders) (code : ℕ) (v :
     -- ---- control
 
     -- no marker is selected: it fits whatever track is left
-    free_leaves : (m : List Bool) (y : Selection) → NoMarker y → Leaves (marks t) r.selects y → Leaves m r.selects y
+    free_leaves : (m : List Bool) (y : Option Spot) → NoMarker y → Leaves (marks t) r.selects y → Leaves m r.selects y
     unfolding spot_fits
-    free_leaves m Nothing f h = h
-    free_leaves m (On Spot.R0) f h = refl
-    free_leaves m (On (Spot.Marker p)) f h = absurd f
+    free_leaves m None f h = h
+    free_leaves m (Some Spot.R0) f h = refl
+    free_leaves m (Some (Spot.Marker p)) f h = absurd f
 
-    arrives_left : (a : Sought) → SoughtOn g a → NoMarker k.selection → Fine (arrival_turn x a)
+    arrives_left : (a : Result (Cylinder × Head) Row) → SoughtOn g a → NoMarker k.selection → Fine (arrival_turn x a)
     unfolding arrival_turn position_sought position_at orders_after after sight
-    arrives_left (Sought.To c h) there free = record {
+    arrives_left (Ok (c, h)) there free = record {
       standing = position_fits_lem g _ there (omega arith);
       pieces = tt;
       chosen = anywhere (λ m. ordered_fit m o.mask o.mask_set code false k.tally k.selection (mask_legal _ o fit) on.tally
           (subst (λ (b : Bool). Leaves m b k.selection) same (free_leaves m k.selection free on.leaves)));
     }
-    arrives_left (Sought.Fails row) there free = fails_left row
+    arrives_left (Err row) there free = fails_left row
 
     sought_on : (q : Seeking) → SoughtOn g (sought_by g q s.cylinder v)
     unfolding sought_by
@@ -187,7 +185,7 @@ module _ (g : Shape) (tr : Tracks) (s : Position) (o : Orders) (code : ℕ) (v :
 
     addressed_on : (q : Seeking) → SoughtOn g (addressed g q s.cylinder v)
     unfolding addressed
-    addressed_on q = pick_all (SoughtOn g) (ltb (length v) 6) {x = Sought.Fails Row.BadSeek} tt (sought_on q)
+    addressed_on q = pick_all (SoughtOn g) (ltb (length v) 6) {x = Err Row.BadSeek} tt (sought_on q)
 
     masks_left : (byte : ℕ) → r.selects ≡ false → Fine (mask_turn x byte)
     unfolding mask_turn masked_turn position_after position_at sight
@@ -200,7 +198,7 @@ module _ (g : Shape) (tr : Tracks) (s : Position) (o : Orders) (code : ℕ) (v :
             (record {
               standing = position_fits_lem g _ (record { cylinder = there.cylinder; head = subst (λ z. z.0 < g.heads) (sym on.here) there.head }) on.place;
               pieces = tt;
-              chosen = anywhere (λ m. ordered_fit m byte true code false 0 Nothing e (omega arith) (sym same ∙ none));
+              chosen = anywhere (λ m. ordered_fit m byte true code false 0 None e (omega arith) (sym same ∙ none));
             })
         go false e = fails_left Row.BadMask
 
@@ -264,7 +262,7 @@ module _ (g : Shape) (tr : Tracks) (s : Position) (o : Orders) (code : ℕ) (v :
     record_left_lem : (at flag : ℕ) → 7 ≤ at → Fine (record_turn x at flag)
     unfolding record_turn needed sight spot_fits
     record_left_lem at flag h =
-        new-left (task k.head (at + 1) (On (Spot.Marker at)) 0) at (new_counts flag v) (1 + record_cells (new_counts flag v)) (marker ∷ new_record flag v)
+        new-left (task k.head (at + 1) (Some (Spot.Marker at)) 0) at (new_counts flag v) (1 + record_cells (new_counts flag v)) (marker ∷ new_record flag v)
         on.here (omega arith) (ap suc (length-new flag v) ∙ omega arith) (λ e. omega (arith, fits_ends at _ e))
         (λ e. new_mark at (new_record flag v) h (omega (arith, length-new flag v, fits_ends at (1 + record_cells (new_counts flag v)) e)))
 
@@ -300,16 +298,16 @@ module _ (g : Shape) (tr : Tracks) (s : Position) (o : Orders) (code : ℕ) (v :
     acts_left (Act.Write w) act e free = lays_left w act free
 
   module _ (r : Rule) (same : r.selects ≡ (rule_of code).selects) (tm : tame r ≡ true) where
-    read_left : (l : List TrackArea) (k : Task) (y : Got) → TaskOn (marks t) r s k → ActFree r.act k.selection
+    read_left : (l : List TrackArea) (k : Task) (y : Result Counts Row) → TaskOn (marks t) r s k → ActFree r.act k.selection
         → Fine (ready_turn g tr s o v l (has_read code r s o k y))
     unfolding ready_turn has_read tame
-    read_left l k (Sees n) on free = acts_left r same k n on r.act refl (second_of (selects_one r.aim r.selects) _ tm) free
-    read_left l k (Fails row) on free = checks_left l row
+    read_left l k (Ok n) on free = acts_left r same k n on r.act refl (second_of (selects_one r.aim r.selects) _ tm) free
+    read_left l k (Err row) on free = checks_left l row
 
-    plan_left : (l : List TrackArea) (p : Plan) → PlanOn (marks t) r s p → OnPlan (ActFree r.act) p → Fine (ready_turn g tr s o v l (ready_by tr code r s o p))
+    plan_left : (l : List TrackArea) (p : Result Task Row) → PlanOn (marks t) r s p → OnPlan (ActFree r.act) p → Fine (ready_turn g tr s o v l (ready_by tr code r s o p))
     unfolding ready_turn ready_by
-    plan_left l (Refuses row) on free = checks_left l row
-    plan_left l (Works k) on free = read_left l k _ on free
+    plan_left l (Err row) on free = checks_left l row
+    plan_left l (Ok k) on free = read_left l k _ on free
 
     obeys_left : Fine (rule_turn g tr code r s o v)
     unfolding rule_turn tame

@@ -9,8 +9,7 @@ use lib.ListN.{length, length-take}
 use Rattle.cells.specs.Cells.{pick, part, overlay, track_cells, marks}
 use Rattle.cells.proofs.Laws.{length-overlay, part-overlay}
 use Rattle.cells.proofs.Tests.{pick_all}
-use Rattle.words.specs.declared.{Word.Word, Tested.Tested, Status.Status, Cause.Cause}
-use Rattle.words.specs.declared.Tested.TheVariants.{Obey, Jump, Bad}
+use Rattle.words.specs.declared.{Word.Word, Status.Status, Cause.Cause, Directive.Directive}
 use Rattle.words.specs.Words.{AreaFits, stored, status_bytes, status_at}
 use Rattle.words.proofs.Obeys.{TestedIn, tested_in}
 use Rattle.pack.specs.declared.{Shape.Shape}
@@ -27,6 +26,8 @@ use Rattle.chain.specs.Step.{under, track_under, next, tracks_of, lay_on, turn_o
 use Rattle.chain.proofs.Fits.{position_on_lem, key_in, channel_fits_lem, held_fits_lem, standing, channeled, ordered}
 use Rattle.chain.proofs.Left.{Left, Chosen, anywhere, here, command-left}
 use Rattle.chain.proofs.Pack.{laid_on}
+use Rattle.std.specs.Prelude.{Ok, Err, Result}
+use Rattle.words.specs.declared.Directive.TheVariants.{Obey, Jump}
 
 -- storage and pack of the sizes that they had
 pub record Sizes (w v : World) : Type 0 where
@@ -163,21 +164,21 @@ module _ (g : Shape) (w : World) (L : Legal g w) where
       command-left g (tracks_of g w.cells w.held.position.cylinder) w.held.position w.held.orders d.code (fetched w.storage d)
       (standing g w L) track_whole (ordered g w L)
 
-  takes_legal : (x : Tested) → TestedIn w.storage x → Legal g (step_by g w x)
+  takes_legal : (x : Result Directive Cause) → TestedIn w.storage x → Legal g (step_by g w x)
   unfolding step_by obeyed
-  takes_legal (Obey d) h = settled_legal d _ (turn-left d) (record { area = h })
-  takes_legal (Jump a) h = jumped_legal a
-  takes_legal (Bad cause) h = stops_legal cause
+  takes_legal (Ok (Obey d)) h = settled_legal d _ (turn-left d) (record { area = h })
+  takes_legal (Ok (Jump a)) h = jumped_legal a
+  takes_legal (Err cause) h = stops_legal cause
 
   pub step_legal : Legal g (step g w)
   unfolding step next
   step_legal = takes_legal _ (tested_in w.storage w.held.channel.next w.held.channel.after_tic)
 
-  takes_sizes : (x : Tested) → TestedIn w.storage x → Sizes w (step_by g w x)
+  takes_sizes : (x : Result Directive Cause) → TestedIn w.storage x → Sizes w (step_by g w x)
   unfolding step_by obeyed stops
-  takes_sizes (Obey d) h = settled_sizes d _ (turn-left d) (record { area = h })
-  takes_sizes (Jump a) h = record { storage = refl; cells = refl }
-  takes_sizes (Bad cause) h = record { storage = length-stored w.storage _ L.room; cells = refl }
+  takes_sizes (Ok (Obey d)) h = settled_sizes d _ (turn-left d) (record { area = h })
+  takes_sizes (Ok (Jump a)) h = record { storage = refl; cells = refl }
+  takes_sizes (Err cause) h = record { storage = length-stored w.storage _ L.room; cells = refl }
 
   pub step_sizes : Sizes w (step g w)
   unfolding step next

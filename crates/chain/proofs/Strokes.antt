@@ -11,13 +11,11 @@ use Rattle.cells.specs.Cells.{pick, both, overlay}
 use lib.Seq.{take-nil}
 use Rattle.cells.proofs.Laws.{overlay_none}
 use Rattle.cells.proofs.Tests.{first_of, second_of, first_picked}
-use Rattle.words.specs.declared.{Word.Word, Tested.Tested}
-use Rattle.words.specs.declared.Tested.TheVariants.{Obey, Jump, Bad}
+use Rattle.words.specs.declared.{Word.Word, Directive.Directive, Cause.Cause}
 use Rattle.words.specs.Words as Words
 use Rattle.words.specs.Words.{along, chains, is_tic, word_at, tested_word, tested}
 use Rattle.pack.specs.declared.{Shape.Shape}
 use Rattle.held.specs.declared.{Position.Position, Held.Held, Orders.Orders}
-use Rattle.held.specs.declared.Selection.TheVariants.{Nothing}
 use Rattle.turn.specs.declared.Ending.TheVariants.{Normal}
 use Rattle.turn.specs.Turn.{position_at, after, orders_of, Tracks, None, transfer_of, given, Turn, turn, report_of}
 use Rattle.channel.specs.Channel.{ends_well, stride, onward, fetched, placed, moves_any, length_counts, wrong_length, goes_on, held_after, with_status, storage_after, World, world}
@@ -28,6 +26,8 @@ use Rattle.chain.specs.Stroke.{chained_no_op, tested_chained_no_op, after_no_ops
 use Rattle.chain.proofs.Laws.{world_eq}
 use Rattle.chain.proofs.Legal.{step_legal}
 use Rattle.chain.proofs.Runs.{run_more}
+use Rattle.std.specs.Prelude.{Ok, Err, Option, Result}
+use Rattle.words.specs.declared.Directive.TheVariants.{Obey, Jump}
 
 -- whether a TIC came before does not matter to it
 module _ (s : List ℕ) (at : ℕ) where
@@ -35,7 +35,7 @@ module _ (s : List ℕ) (at : ℕ) where
   unfolding tested tested_word tested_chained_no_op
   same_test tic e = go (Words.in_place s at) (is_tic (word_at s at)) _ _ _ _ e
     where
-      go : (p q : Bool) (a : ℕ) (u v x : Tested) → tested_chained_no_op (pick p (pick q (Jump a) u) v) ≡ true → pick p (pick q (pick tic x (Jump a)) u) v ≡ pick p (pick q (Jump a) u) v
+      go : (p q : Bool) (a : ℕ) (u v x : Result Directive Cause) → tested_chained_no_op (pick p (pick q (Ok (Jump a)) u) v) ≡ true → pick p (pick q (pick tic x (Ok (Jump a))) u) v ≡ pick p (pick q (Ok (Jump a)) u) v
       go true true a u v x e = absurd (false≢true e)
       go true false a u v x e = refl
       go false q a u v x e = refl
@@ -49,18 +49,18 @@ module _ (w : Word) where
   unfolding chained_no_op
   by_flag e = ap (λ (b : Bool). both b (chains w)) (sym (eq-eqb _ _ e))
 
-pub by_test : (s : List ℕ) (at : ℕ) (x y : Tested) (r : Bool) → x ≡ tested s at false → x ≡ y → r ≡ tested_chained_no_op y → r ≡ tested_chained_no_op (tested s at false)
+pub by_test : (s : List ℕ) (at : ℕ) (x y : Result Directive Cause) (r : Bool) → x ≡ tested s at false → x ≡ y → r ≡ tested_chained_no_op y → r ≡ tested_chained_no_op (tested s at false)
 by_test s at x y r p q e = e ∙ ap tested_chained_no_op (sym q ∙ p)
 
 -- a No-op's turn: nothing moves, nothing is laid, and sense stands
-no_op : (g : Shape) (t : Tracks) (s : Position) (o : Orders) (v : List ℕ) → command g t s o 0x03 v ≡ turn Normal None [] [] s (after o 0x03 false 0 Nothing)
+no_op : (g : Shape) (t : Tracks) (s : Position) (o : Orders) (v : List ℕ) → command g t s o 0x03 v ≡ turn Normal None [] [] s (after o 0x03 false 0 Option.None)
 unfolding command rule_of find controls rule_turn plan_of licensed unless_barred aimed plan_reads areas_of ready_by gets all_read has_read ready_turn act_turn control_turn no_op_turn end_turn end_turn_at sight areas_read position_after sense_after position_at orders_after counts_in
 no_op g t s o v = refl
 
 module _ (g : Shape) (w : World) (L : Legal g w) where
   module _ (d : Word) (code : d.code ≡ 0x03) (on : chains d ≡ true) where
     abbrev x : Turn
-    x = turn Normal None [] [] w.held.position (after w.held.orders 0x03 false 0 Nothing)
+    x = turn Normal None [] [] w.held.position (after w.held.orders 0x03 false 0 Option.None)
 
     turn_no_op : turn_of g w d ≡ x
     unfolding turn_of
@@ -84,11 +84,11 @@ module _ (g : Shape) (w : World) (L : Legal g w) where
     unfolding obeyed settled lay_on
     obeyed_no_op = ap (settled g w d) turn_no_op ∙ world_eq held_on storage_on refl
 
-  takes_no_op : (x : Tested) → tested_chained_no_op x ≡ true → step_by g w x ≡ world (after_no_ops w.held (along w.held.channel.next 8)) w.storage w.cells
+  takes_no_op : (x : Result Directive Cause) → tested_chained_no_op x ≡ true → step_by g w x ≡ world (after_no_ops w.held (along w.held.channel.next 8)) w.storage w.cells
   unfolding step_by tested_chained_no_op chained_no_op
-  takes_no_op (Obey d) e = obeyed_no_op d (eqb-true _ _ (first_of (eqb d.code 0x03) _ e)) (second_of (eqb d.code 0x03) _ e)
-  takes_no_op (Jump a) e = absurd (false≢true e)
-  takes_no_op (Bad cause) e = absurd (false≢true e)
+  takes_no_op (Ok (Obey d)) e = obeyed_no_op d (eqb-true _ _ (first_of (eqb d.code 0x03) _ e)) (second_of (eqb d.code 0x03) _ e)
+  takes_no_op (Ok (Jump a)) e = absurd (false≢true e)
+  takes_no_op (Err cause) e = absurd (false≢true e)
 
   step_no_op : tested_chained_no_op (tested w.storage w.held.channel.next false) ≡ true
       → step g w ≡ world (after_no_ops w.held (along w.held.channel.next 8)) w.storage w.cells
@@ -98,7 +98,7 @@ module _ (g : Shape) (w : World) (L : Legal g w) where
 -- ---- a run of them
 
 module _ (h : Held) where
-  pub no_ops_are : (next : ℕ) (o : Orders) → o ≡ after h.orders 0x03 false 0 Nothing
+  pub no_ops_are : (next : ℕ) (o : Orders) → o ≡ after h.orders 0x03 false 0 Option.None
       → record { position = h.position; orders = o; channel = record { going = h.channel.going; key = h.channel.key; next = next; after_tic = false } } ≡ after_no_ops h next
   unfolding after_no_ops
   no_ops_are next o e = ap (λ (x : Orders). record { position = h.position; orders = x; channel = record { going = h.channel.going; key = h.channel.key; next = next; after_tic = false } }) e

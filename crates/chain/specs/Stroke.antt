@@ -1,11 +1,11 @@
 -- A No-op that chains, in one stroke. No rule of document 01's: `Strokes` among the proofs shows that the model's step comes to it, so that a run of
 -- No-ops needs no track.
-use Rattle.std.specs.Prelude.{ℕ, ◌≡◌, Bool, false, List, eqb}
+use Rattle.std.specs.Prelude.{ℕ, ◌≡◌, Bool, false, List, eqb, Ok, Err, None, Result}
 use Rattle.cells.specs.Cells.{both}
-use Rattle.words.specs.declared.{Word.Word, Tested.Tested}
+use Rattle.words.specs.declared.{Word.Word, Directive.Directive, Cause.Cause}
 use Rattle.words.specs.Words.{chains}
 use Rattle.pack.specs.declared.{Shape.Shape}
-use Rattle.held.specs.declared.{Held.Held, Selection.Selection}
+use Rattle.held.specs.declared.{Held.Held}
 use Rattle.turn.specs.Turn.{after}
 use Rattle.channel.specs.Channel.{world}
 use Rattle.chain.specs.Step.{run, Legal}
@@ -14,16 +14,16 @@ use Rattle.chain.specs.Step.{run, Legal}
 unfoldable pub chained_no_op : Word → Bool
 chained_no_op w = both (eqb w.code 0x03) (chains w)
 
-unfoldable pub tested_chained_no_op : Tested → Bool
-tested_chained_no_op (Tested.Obey w) = chained_no_op w
-tested_chained_no_op (Tested.Jump a) = false
-tested_chained_no_op (Tested.Bad cause) = false
+unfoldable pub tested_chained_no_op : Result Directive Cause → Bool
+tested_chained_no_op (Ok (Directive.Obey w)) = chained_no_op w
+tested_chained_no_op (Ok (Directive.Jump a)) = false
+tested_chained_no_op (Err cause) = false
 
 -- what is held after No-ops, with this next word
 unfoldable pub after_no_ops : Held → ℕ → Held
 after_no_ops h next = record {
   position = h.position;
-  orders = after h.orders 0x03 false 0 Selection.Nothing;
+  orders = after h.orders 0x03 false 0 None;
   channel = record { going = h.channel.going; key = h.channel.key; next = next; after_tic = false };
 }
 

@@ -7,9 +7,9 @@ ghost use Rattle.channel.specs.Channel.{world};
 ghost use Rattle.chain.specs.Step.{obeyed, step, run, Legal};
 ghost use Rattle.chain.specs.Stroke.{chained_no_op, tested_chained_no_op, after_no_ops, SameRun};
 
-use held::{Channel, Held, Orders, Selection};
+use held::{Channel, Held, Orders};
 use pack::Shape;
-use words::{Cause, Tested, Word};
+use words::{Directive, Word};
 
 const NO_OP: u8 = 0x03;
 
@@ -29,9 +29,9 @@ pub fn step(g: Shape, h: Held, storage: &mut [u8], cells: &mut [u16]) -> Held
     ensures { world result storage.new cells.new ≡ step g (world h storage.old cells.old) }
 {
     match words::test(storage, h.channel.next, h.channel.after_tic) {
-        Tested::Obey(w) => command(g, h, w, storage, cells),
-        Tested::Jump(a) => channel::jump(h, a),
-        Tested::Bad(cause) => channel::stop(h, cause, storage),
+        Ok(Directive::Obey(w)) => command(g, h, w, storage, cells),
+        Ok(Directive::Jump(a)) => channel::jump(h, a),
+        Err(cause) => channel::stop(h, cause, storage),
     }
 }
 
@@ -57,9 +57,9 @@ fn is_chained_no_op_at(storage: &[u8], at: u32) -> bool
     ensures { result ≡ tested_chained_no_op (tested storage.now at false) }
 {
     match words::test(storage, at, false) {
-        Tested::Obey(w) => is_chained_no_op(w),
-        Tested::Jump(_) => false,
-        Tested::Bad(_) => false,
+        Ok(Directive::Obey(w)) => is_chained_no_op(w),
+        Ok(Directive::Jump(_)) => false,
+        Err(_) => false,
     }
 }
 
@@ -73,7 +73,7 @@ fn after_no_ops(h: Held, next: u32) -> Held
         before: NO_OP,
         whole: false,
         tally: 0,
-        selection: Selection::Nothing,
+        selection: None,
     };
     let channel = Channel {
         going: h.channel.going,

@@ -20,7 +20,7 @@ use Rattle.pack.specs.declared.{Shape.Shape}
 use Rattle.held.specs.declared.{Held.Held, Position.Position, Orders.Orders}
 use Rattle.turn.specs.declared.{Transfer.Transfer, Report.Report}
 use Rattle.turn.specs.Turn.{TrackArea, Piece, Moves, None, Gives, Takes, alone, given, transfer_of, filled, Turn, report_of, lay, is_check, check_turn}
-use Rattle.command.specs.declared.{Job.Job, Ready.Ready}
+use Rattle.command.specs.declared.{Job.Job}
 use Rattle.command.specs.Command.{sight, ready_of}
 use Rattle.command.proofs.Acts.{LaysBy, Lays, check_keeps, acts_keeps}
 use Rattle.command.proofs.Comes.{job_acts, row_ends}
@@ -29,6 +29,7 @@ use Rattle.ending.specs.Ending.{check_report}
 use Rattle.ending.proofs.Laws.{failed}
 use Rattle.channel.specs.Channel.{fetched, placed, held_after, with_status, storage_after, world, turn_on, obeyed_on}
 use Rattle.channel.specs.Inside.{word_turn, Turned}
+use Rattle.std.specs.Prelude.{Err, Ok, Result}
 
 -- ---- the part of storage that a word names
 
@@ -152,14 +153,14 @@ fails_turned st o l row w s t d e =
     let told : d ≡ report_of (check_turn st o l row) = e ∙ sym (failed st o l row) in
     record { told = told; storage = placed_none (check_turn st o l row) d (check_keeps (Act.Control Control.NoOp) l st.head st o row).lays told w s t refl; track = refl }
 
-module _ (g : Shape) (h : Held) (w : Word) (s t : List ℕ) (x : Ready) (ready : x ≡ ready_of (alone t) h.position h.orders w.code) where
-  pub row_turned : (row : Row) (d : Report) → x ≡ Ready.Refuses row → d ≡ check_report h.position h.orders row → Turned (turn_on g (world h s t) w) w s t s t d
+module _ (g : Shape) (h : Held) (w : Word) (s t : List ℕ) (x : Result Job Row) (ready : x ≡ ready_of (alone t) h.position h.orders w.code) where
+  pub row_turned : (row : Row) (d : Report) → x ≡ Err row → d ≡ check_report h.position h.orders row → Turned (turn_on g (world h s t) w) w s t s t d
   unfolding turn_on
   row_turned row d q e =
       subst (λ (z : Turn). Turned z w s t s t d) (row_ends (alone t) h.position h.orders w.code row (sym q ∙ ready) g (fetched s w))
       (fails_turned h.position h.orders _ row w s t d e)
 
-  pub job_turned : (j : Job) (s' t' : List ℕ) (d : Report) → x ≡ Ready.Acts j → Turned (word_turn g j w s t) w s t s' t' d
+  pub job_turned : (j : Job) (s' t' : List ℕ) (d : Report) → x ≡ Ok j → Turned (word_turn g j w s t) w s t s' t' d
       → Turned (turn_on g (world h s t) w) w s t s' t' d
   unfolding turn_on word_turn
   job_turned j s' t' d q e =

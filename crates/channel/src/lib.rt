@@ -12,7 +12,7 @@ ghost use Rattle.unit.specs.Unit.{Accepts};
 ghost use Rattle.channel.specs.Channel.{fetched, unit_status, ends_well, stride, onward, placed, bytes_moved, length_counts, wrong_length, goes_on, held_after, status_after, with_status, world, jumped, turn_on, obeyed_on};
 ghost use Rattle.channel.specs.Inside.{word_turn, Turned, CanObey};
 
-use command::{Job, Ready};
+use command::Job;
 use held::{Channel, Held};
 use pack::Shape;
 use turn::{Ending, Report, Transfer};
@@ -226,8 +226,8 @@ fn turn(g: Shape, h: Held, w: Word, storage: &mut [u8], track: &mut [u16]) -> Re
         storage.new track.new result }
 {
     match unit::ready(w.code, track, h.position, h.orders) {
-        Ready::Refuses(row) => ending::failed(h.position, h.orders, row),
-        Ready::Acts(j) => act(g, j, w, storage, track),
+        Err(row) => ending::failed(h.position, h.orders, row),
+        Ok(j) => act(g, j, w, storage, track),
     }
 }
 

@@ -10,7 +10,7 @@ use lib.Seq.{get_or-take}
 use lib.Dec.{lit<}
 use borrow.Author.Tests.{not-true}
 use Rattle.cells.specs.Cells.{pick, both, either, track_cells, marks}
-use Rattle.words.specs.declared.{Word.Word, Tested.Tested}
+use Rattle.words.specs.declared.{Word.Word, Directive.Directive, Cause.Cause}
 use Rattle.words.specs.Words.{stored, status_for, status_bytes}
 use Rattle.areas.specs.Areas.{home_area}
 use Rattle.hunt.specs.Hunt.{count_first}
@@ -33,6 +33,7 @@ use Rattle.claim_back.proofs.Plans.{NamesCount, record_plan, record_named, home_
 use Rattle.claim_back.proofs.Given.{Holds, Gave, record_gave, home_gave}
 use Rattle.claim_back.proofs.Left.{area_inside, track-left, LeftIn, left_in}
 use Rattle.claim_back.proofs.After.{track-kept}
+use Rattle.std.specs.Prelude.{Result}
 
 -- a read that names a key knows it, if it names none that was passed over
 key_known : (n : Names) (N : NamesCount n) (p : Bool) → both (names_key n) p ≡ false → N.key ≡ true → not p ≡ true
@@ -113,7 +114,7 @@ module _ (g : Shape) (w : World) (d : Word) (k : Write) (u : World) (e : Word) (
   places : (i : ℕ) → i < min e.count (length v) → clear g u e i ≡ true → get_or (step g u).storage (e.address + i) 0 ≡ get_or v i 0
   unfolding step step_by obeyed settled storage_after with_status given
   places i h c =
-      ap (λ (y : Tested). get_or (step_by g u y).storage (e.address + i) 0) R.word ∙ go (goes_on e (report_of x)) c
+      ap (λ (y : Result Directive Cause). get_or (step_by g u y).storage (e.address + i) 0) R.word ∙ go (goes_on e (report_of x)) c
       ∙ ap (λ (m : Moves). get_or (placed u.storage e (given m)) (e.address + i) 0) (gave_again g w d k u e counted R knows).moves
       ∙ placed_at u.storage e v room i h
     where
@@ -126,7 +127,7 @@ module _ (g : Shape) (w : World) (d : Word) (k : Write) (u : World) (e : Word) (
   shown : goes_on e (report_of x) ≡ false → get_or (step g u).storage 68 0 ≡ pick (no_data e (sent_at g w d k)) 0x0D 0x0C
   unfolding step step_by obeyed settled storage_after with_status status_after status_for stored report_of unit_status
   shown q =
-      ap (λ (y : Tested). get_or (step_by g u y).storage 68 0) R.word
+      ap (λ (y : Result Directive Cause). get_or (step_by g u y).storage 68 0) R.word
       ∙ ap (λ (b : Bool). get_or (pick b put (stored put (status_after u.held.channel e (report_of x)))) 68 0) q
       ∙ overlay_inside put 64 (status_bytes (status_after u.held.channel e (report_of x))) 4 (omega (arith, put_reaches)) (lit< tt)
       ∙ ap unit_status (gave_again g w d k u e counted R knows).ending ∙ by (no_data e (sent_at g w d k))

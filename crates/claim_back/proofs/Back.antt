@@ -6,7 +6,7 @@ use mathlib.Core.Bool.{Bool, true, false, false≢true}
 use native.Mathlib.Omega.{arith}
 use lib.ListN.{get_or}
 use Rattle.cells.specs.Cells.{pick}
-use Rattle.words.specs.declared.{Word.Word, Tested.Tested}
+use Rattle.words.specs.declared.{Word.Word, Directive.Directive, Cause.Cause}
 use Rattle.words.specs.Words.{status_at}
 use Rattle.areas.specs.declared.{Area.Area}
 use Rattle.pack.specs.declared.{Shape.Shape}
@@ -18,9 +18,9 @@ use Rattle.channel.specs.Channel.{stride, onward, goes_on, held_after, World}
 use Rattle.chain.specs.Step.{next, turn_of, settled, obeyed, step_by, step, run, Legal}
 use Rattle.chain.proofs.Legal.{step_legal}
 use Rattle.chain.proofs.Runs.{run_on, run_idle, run_split, run_legal}
-use Rattle.host.specs.declared.{Answer.Answer, Guarded.Guarded}
+use Rattle.host.specs.declared.{Answer.Answer}
 use Rattle.host.specs.declared.Answer.TheVariants.{NoChain}
-use Rattle.host.specs.Host.{Hears, hears, guard_of, guards, ran, goes}
+use Rattle.host.specs.Host.{Hears, hears, guard_of, guards, ran, goes, no_refusal}
 use Rattle.host.proofs.Laws.{passes_legal}
 use Rattle.claim_box.specs.Confined.{spares_byte}
 use Rattle.claim_box.specs.Demand3.{DataChecked}
@@ -30,13 +30,14 @@ use Rattle.claim_back.specs.Back.{Since, now, words, sent_at, no_data, WrittenRe
 use Rattle.claim_back.proofs.After.{track-kept}
 use Rattle.claim_back.proofs.Again.{back}
 use Rattle.claim_back.proofs.Lost.{stays, key_lost}
+use Rattle.std.specs.Prelude.{Ok, Result}
 
-module _ (g : Shape) (v : World) (n : ℕ) (p : guard_of g v ≡ Guarded.Passes) where
+module _ (g : Shape) (v : World) (n : ℕ) (p : guard_of g v ≡ no_refusal) where
   -- a go that passes leaves what its words leave
   go_runs : (goes g n v).left ≡ run g n v
   unfolding goes guards ran
   go_runs =
-      ap (λ (x : Guarded). (guards x v (pick v.held.channel.going (ran (run g n v)) (hears NoChain v))).left) p ∙ by v.held.channel.going refl
+      ap (λ (x : Result (Unit {0}) Answer). (guards x v (pick v.held.channel.going (ran (run g n v)) (hears NoChain v))).left) p ∙ by v.held.channel.going refl
     where
       by : (b : Bool) → v.held.channel.going ≡ b → (pick b (ran (run g n v)) (hears NoChain v)).left ≡ run g n v
       by true e = refl
@@ -62,7 +63,7 @@ module _ (g : Shape) (v : World) (n : ℕ) (p : guard_of g v ≡ Guarded.Passes)
         ∙ (run_confined g (n - j - 1) (step g (run g j v)) after_legal).storage i q
 
 -- where word j + 1 ends the chain, the go leaves what that word left, and the host hears that the chain ended
-module _ (g : Shape) (v : World) (n : ℕ) (p : guard_of g v ≡ Guarded.Passes) (j : ℕ) (h : j < n) (going : (run g j v).held.channel.going ≡ true)
+module _ (g : Shape) (v : World) (n : ℕ) (p : guard_of g v ≡ no_refusal) (j : ℕ) (h : j < n) (going : (run g j v).held.channel.going ≡ true)
     (over : (step g (run g j v)).held.channel.going ≡ false) where
   -- a chain of which a word ran was going
   was_going : (b : Bool) → v.held.channel.going ≡ b → v.held.channel.going ≡ true
@@ -78,11 +79,11 @@ module _ (g : Shape) (v : World) (n : ℕ) (p : guard_of g v ≡ Guarded.Passes)
 
 -- a word after which the chain does not go on ends it, and so does Data Check
 module _ (g : Shape) (u : World) where
-  word_over : (e : Word) → next u ≡ Tested.Obey e → goes_on e (report_of (turn_of g u e)) ≡ false → (step g u).held.channel.going ≡ false
+  word_over : (e : Word) → next u ≡ Ok (Directive.Obey e) → goes_on e (report_of (turn_of g u e)) ≡ false → (step g u).held.channel.going ≡ false
   unfolding step step_by obeyed settled held_after rested fresh fresh_channel
   word_over e w q =
       let x : Report = report_of (turn_of g u e) in
-      ap (λ (y : Tested). (step_by g u y).held.channel.going) w
+      ap (λ (y : Result Directive Cause). (step_by g u y).held.channel.going) w
       ∙ ap (λ (b : Bool). (pick b (record { position = x.position; orders = x.orders; channel = onward u.held.channel (stride x.ending) }) (rested x.position)).channel.going) q
 
   check-over : (x : Area) → DataChecked x u (step g u) → (step g u).held.channel.going ≡ false

@@ -3,7 +3,6 @@ use Prim.Native.Nat.{ℕ, zero, suc, ◌<◌}
 use mathlib.Core.Path.{◌≡◌, refl}
 use mathlib.Core.Bool.{Bool, true, false}
 use lib.Dec.{lit<}
-use Rattle.words.specs.declared.{Tested.Tested}
 use Rattle.words.specs.Words.{tested}
 use Rattle.hunt.specs.declared.{Spot.Spot}
 use Rattle.hunt.specs.declared.Spot.TheVariants.{R0, Marker}
@@ -22,6 +21,8 @@ use Rattle.claim_back.specs.Found.{id_at, search_id, Loops, id_sent, Left}
 use Rattle.claim_back.specs.Example.{to_write, to_read, the_write, new, loop_storage, searching, key_gap, over, Example}
 use Rattle.claim_back.proofs.FoundMet.{cells_with, ids_differ}
 use Rattle.claim_back.proofs.Found.{found}
+use Rattle.std.specs.Prelude.{Ok}
+use Rattle.words.specs.declared.{Directive.Directive}
 
 -- ---- 1D, then 1E
 
@@ -54,7 +55,7 @@ loops = record {
   differ = ids_differ (track_under one_pack searching) named refl (refl, tt);
 }
   where
-    search : (tic : Bool) → tested searching.storage searching.held.channel.next tic ≡ Tested.Obey (search_id 128 0x40)
+    search : (tic : Bool) → tested searching.storage searching.held.channel.next tic ≡ Ok (Directive.Obey (search_id 128 0x40))
     search true = refl
     search false = refl
 

@@ -14,11 +14,9 @@ use Rattle.words.specs.Words.{word_bytes, along}
 use Rattle.areas.specs.Areas.{count_area, readable}
 use Rattle.hunt.specs.declared.{Spot.Spot}
 use Rattle.hunt.specs.declared.Spot.TheVariants.{R0, Marker}
-use Rattle.hunt.specs.declared.Next.TheVariants.{ComesTo}
 use Rattle.hunt.specs.Hunt.{spot_fits, count_first, next_id}
 use Rattle.hunt.proofs.Inside.{NextOn, id_on, spot_in}
 use Rattle.pack.specs.declared.{Shape.Shape}
-use Rattle.held.specs.declared.{Selection.Selection}
 use Rattle.held.specs.Held.{no_sense}
 use Rattle.table.specs.declared.{How.How, Write.Write}
 use Rattle.command.specs.Command.{satisfied}
@@ -31,9 +29,8 @@ use Rattle.claim_track.specs.Damage.{IsRecord, own_count}
 use Rattle.claim_track.proofs.Areas.{begun-marker, own_readable}
 use Rattle.words.specs.declared.{Word.Word}
 use Rattle.pack.specs.Pack.{start_of}
-use Rattle.host.specs.declared.{Guarded.Guarded}
 use Rattle.host.specs.declared.Answer.TheVariants.{NoChain}
-use Rattle.host.specs.Host.{hears, guard_of, guards, ran, goes}
+use Rattle.host.specs.Host.{hears, guard_of, guards, ran, goes, no_refusal}
 use Rattle.claim_box.specs.Confined.{track_on}
 use Rattle.claim_box.specs.Demand3.{track}
 use Rattle.claim_back.proofs.There.{still_there}
@@ -42,9 +39,10 @@ use Rattle.claim_back.specs.Found.{id_at, Seeks, found_held, found_at, InLoop, C
 use Rattle.claim_back.proofs.FoundWalk.{marked_most, Walk, here, on, Lies, Way, walk}
 use Rattle.claim_back.proofs.FoundWord.{misses, meets, searched, search_step, tic_step}
 use Rattle.claim_back.proofs.FoundMet.{met}
+use Rattle.std.specs.Prelude.{Some, Ok, Option}
 
 -- a go that passes runs its words
-go_ran : (g : Shape) (n : ℕ) (w : World) → guard_of g w ≡ Guarded.Passes → w.held.channel.going ≡ true → goes g n w ≡ ran (run g n w)
+go_ran : (g : Shape) (n : ℕ) (w : World) → guard_of g w ≡ no_refusal → w.held.channel.going ≡ true → goes g n w ≡ ran (run g n w)
 unfolding goes guards
 go_ran g n w p q = λ i. guards (p i) w (pick (q i) (ran (run g n w)) (hears NoChain w))
 
@@ -60,7 +58,7 @@ module _ (g : Shape) (w : World) (p flags : ℕ) (r : Spot) (S : Seeks g w p fla
 
   -- ---- the chain on its way: at a word so many bytes on, with this place, sense, command before, whether equal, tally and selection
 
-  abbrev at : ℕ → Bool → ℕ → Sense → ℕ → Bool → ℕ → Selection → World
+  abbrev at : ℕ → Bool → ℕ → Sense → ℕ → Bool → ℕ → Option Spot → World
   at next tic place sense before whole tally selection =
       world
       (record {
@@ -79,15 +77,15 @@ module _ (g : Shape) (w : World) (p flags : ℕ) (r : Spot) (S : Seeks g w p fla
 
   -- .. after a search that came to x
   abbrev after31 : ℕ → Bool → Bool → ℕ → Spot → World
-  after31 next tic whole tally x = at next tic (count_first x) no_sense 0x31 whole tally (Selection.On x)
+  after31 next tic whole tally x = at next tic (count_first x) no_sense 0x31 whole tally (Some x)
 
-  in_loop : (next : ℕ) (tic : Bool) (place : ℕ) (sense : Sense) (before : ℕ) (whole : Bool) (tally : ℕ) (x : Selection) → (next ≡ a) ⊎ (next ≡ along a word_bytes)
+  in_loop : (next : ℕ) (tic : Bool) (place : ℕ) (sense : Sense) (before : ℕ) (whole : Bool) (tally : ℕ) (x : Option Spot) → (next ≡ a) ⊎ (next ≡ along a word_bytes)
       → InLoop w (at next tic place sense before whole tally x)
   in_loop next tic place sense before whole tally x h = record { going = S.loops.going; word = h; storage = refl; cells = refl }
 
   -- ---- its words
 
-  there : (q : ℕ) (x : Spot) (n : ℕ) → next_id m q ≡ ComesTo x n → IsRecord t x
+  there : (q : ℕ) (x : Spot) (n : ℕ) → next_id m q ≡ Some (x, n) → IsRecord t x
   there q x n e = subst (NextOn m) e (id_on m q)
 
   read : (x : Spot) → IsRecord t x → readable t (count_area (count_first x)) ≡ true
@@ -96,22 +94,22 @@ module _ (g : Shape) (w : World) (p flags : ℕ) (r : Spot) (S : Seeks g w p fla
   home : along a 0 ≡ a
   home = omega (arith, next_in w.held.channel (channeled g w S.loops.legal))
 
-  module _ (tic : Bool) (q : ℕ) (sense : Sense) (before : ℕ) (whole : Bool) (tally : ℕ) (sel : Selection) where
+  module _ (tic : Bool) (q : ℕ) (sense : Sense) (before : ℕ) (whole : Bool) (tally : ℕ) (sel : Option Spot) where
     abbrev v : World
     v = at a tic q sense before whole tally sel
 
-    searches : (x : Spot) (n h : ℕ) (b : Bool) → next_id m q ≡ ComesTo x n → tally + n ≡ h → h ≤ 1
+    searches : (x : Spot) (n h : ℕ) (b : Bool) → next_id m q ≡ Some (x, n) → tally + n ≡ h → h ≤ 1
         → satisfied How.IfEqual (id_at t x) (id_at t r) ≡ b → step g v ≡ searched g v x h b
     unfolding next track_under under
     searches x n h b e c l sat = search_step g v p flags x r n h b (S.loops.loop.search tic) S.loops.loop.chained S.sent e c l (read x (there q x n e)) sat
 
     -- the record itself
-    finds : (n h : ℕ) → next_id m q ≡ ComesTo r n → tally + n ≡ h → h ≤ 1 → run g 1 v ≡ after31 (along a (word_bytes + word_bytes)) false true h r
+    finds : (n h : ℕ) → next_id m q ≡ Some (r, n) → tally + n ≡ h → h ≤ 1 → run g 1 v ≡ after31 (along a (word_bytes + word_bytes)) false true h r
     unfolding run onward position_at after orders_of
     finds n h e c l = run_on g 0 v S.loops.going ∙ searches r n h true e c l (meets t r)
 
     -- another
-    module _ (x : Spot) (n h : ℕ) (e : next_id m q ≡ ComesTo x n) (c : tally + n ≡ h) (l : h ≤ 1) (d : x ≡ r → ⊥) where
+    module _ (x : Spot) (n h : ℕ) (e : next_id m q ≡ Some (x, n)) (c : tally + n ≡ h) (l : h ≤ 1) (d : x ≡ r → ⊥) where
       passes : step g v ≡ after31 (along a word_bytes) false false h x
       unfolding onward position_at after orders_of
       passes = searches x n h false e c l (misses t x r (λ k. d (S.loops.differ x r (there q x n e) S.there k)))
@@ -134,7 +132,7 @@ module _ (g : Shape) (w : World) (p flags : ℕ) (r : Spot) (S : Seeks g w p fla
     before : (i : ℕ) → i < words → InLoop w (run g i v)
     found : run g words v ≡ after31 (along a (word_bytes + word_bytes)) false true j r
 
-  reaches : {q i k j : ℕ} → Walk m r q i k j → (tic : Bool) (sense : Sense) (before : ℕ) (whole : Bool) (sel : Selection)
+  reaches : {q i k j : ℕ} → Walk m r q i k j → (tic : Bool) (sense : Sense) (before : ℕ) (whole : Bool) (sel : Option Spot)
       → Reaches k j (at a tic q sense before whole i sel)
   unfolding run
   reaches {q = q} {i = i} {j = j} (here n e c l) tic sense before whole sel = record {
@@ -147,7 +145,7 @@ module _ (g : Shape) (w : World) (p flags : ℕ) (r : Spot) (S : Seeks g w p fla
       first : (y : ℕ) → y < 1 → InLoop w (run g y (at a tic q sense before whole i sel))
       first zero h = in_loop a tic q sense before whole i sel (inl refl)
       first (suc y) h = absurd (omega arith)
-  reaches {q = q} {i = i} {k = suc k} {j = j} (on x n h e c l d y) tic sense before whole sel = go (reaches y true no_sense 0x31 false (Selection.On x))
+  reaches {q = q} {i = i} {k = suc k} {j = j} (on x n h e c l d y) tic sense before whole sel = go (reaches y true no_sense 0x31 false (Some x))
     where
       go : Reaches k j (after31 a true false h x) → Reaches (suc k) j (at a tic q sense before whole i sel)
       go R = record {
@@ -161,7 +159,7 @@ module _ (g : Shape) (w : World) (p flags : ℕ) (r : Spot) (S : Seeks g w p fla
           first zero f = in_loop a tic q sense before whole i sel (inl refl)
           first (suc zero) f =
               subst (InLoop w) (sym (one tic q sense before whole i sel x n h e c l d 0))
-              (in_loop (along a word_bytes) false (count_first x) no_sense 0x31 false h (Selection.On x) (inr refl))
+              (in_loop (along a word_bytes) false (count_first x) no_sense 0x31 false h (Some x) (inr refl))
           first (suc (suc z)) f = subst (InLoop w) (sym (two tic q sense before whole i sel x n h e c l d z)) (R.before z (omega arith))
 
   lies : (x : Spot) → IsRecord t x → Lies m x

@@ -8,7 +8,6 @@ use native.Mathlib.Nat.{add-zero, zero-add}
 use lib.ListN.{get_or}
 use lib.Dec.{lit≤}
 use Rattle.cells.specs.Cells.{pick, marks}
-use Rattle.words.specs.declared.{Tested.Tested}
 use Rattle.words.specs.Words.{tested}
 use Rattle.hunt.specs.declared.{Spot.Spot}
 use Rattle.hunt.specs.declared.Spot.TheVariants.{R0, Marker}
@@ -23,6 +22,8 @@ use Rattle.claim_box.specs.Reading.{stocked, started_on, chained}
 use Rattle.claim_box.proofs.Opened.{track, box}
 use Rattle.claim_box.proofs.Reading.{reading}
 use Rattle.claim_back.specs.Found.{id_at, IdsDiffer, search_id, Seeks}
+use Rattle.std.specs.Prelude.{Ok}
+use Rattle.words.specs.declared.{Directive.Directive}
 
 -- the cells that hold a marker
 unfoldable pub cells_with : List Bool → ℕ → List ℕ
@@ -93,6 +94,6 @@ met = record {
   sent = refl;
 }
   where
-    search : (tic : Bool) → tested chain.storage chain.held.channel.next tic ≡ Tested.Obey (search_id 128 0x40)
+    search : (tic : Bool) → tested chain.storage chain.held.channel.next tic ≡ Ok (Directive.Obey (search_id 128 0x40))
     search true = refl
     search false = refl

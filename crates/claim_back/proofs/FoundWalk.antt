@@ -14,17 +14,16 @@ use lib.Dec.{ltb}
 use borrow.Author.Tests.{lt-ltb, le-ltb}
 use Rattle.cells.specs.Cells.{pick}
 use Rattle.hunt.specs.declared.{Spot.Spot}
-use Rattle.hunt.specs.declared.Found.TheVariants.{At, Nothing}
 use Rattle.hunt.specs.declared.Spot.TheVariants.{R0, Marker}
-use Rattle.hunt.specs.declared.Next.TheVariants.{ComesTo}
 use Rattle.hunt.specs.Hunt.{scan, hunt, ahead_or, next_id, count_first}
 use Rattle.hunt.proofs.Laws.{id_low, id_high}
 use Rattle.claim_back.specs.Found.{marked}
+use Rattle.std.specs.Prelude.{Some, None}
 
 -- from place p and tally i, past k other records, the search comes to r with tally j
 pub data Walk (m : List Bool) (r : Spot) : ℕ → ℕ → ℕ → ℕ → Type 0 where
-  here : {p i j : ℕ} (n : ℕ) → next_id m p ≡ ComesTo r n → i + n ≡ j → j ≤ 1 → Walk m r p i zero j
-  on : {p i k j : ℕ} (x : Spot) (n h : ℕ) → next_id m p ≡ ComesTo x n → i + n ≡ h → h ≤ 1 → (x ≡ r → ⊥) → Walk m r (count_first x) h k j → Walk m r p i (suc k) j
+  here : {p i j : ℕ} (n : ℕ) → next_id m p ≡ Some (r, n) → i + n ≡ j → j ≤ 1 → Walk m r p i zero j
+  on : {p i k j : ℕ} (x : Spot) (n h : ℕ) → next_id m p ≡ Some (x, n) → i + n ≡ h → h ≤ 1 → (x ≡ r → ⊥) → Walk m r (count_first x) h k j → Walk m r p i (suc k) j
 
 -- R0, or a marker of these from cell 7 on
 abbrev pub Lies : List Bool → Spot → Type 0
@@ -66,23 +65,23 @@ module _ (m : List Bool) where
     unfolding marked
     one_more = ap marked cell
 
-    hunt_by : hunt m p ≡ pick b (At p) (hunt m (p + 1))
+    hunt_by : hunt m p ≡ pick b (Some p) (hunt m (p + 1))
     unfolding hunt scan
-    hunt_by = ap (λ (l : List Bool). scan l p) cell ∙ ap (λ (q : ℕ). pick b (At p) (scan (drop (p + 1) m) q)) (sym (add-one p))
+    hunt_by = ap (λ (l : List Bool). scan l p) cell ∙ ap (λ (q : ℕ). pick b (Some p) (scan (drop (p + 1) m) q)) (sym (add-one p))
 
   -- ---- where the search comes to from place p
 
-  id_marked : (p : ℕ) → 7 ≤ p → p < length m → get_or m p false ≡ true → next_id m p ≡ ComesTo (Marker p) 0
+  id_marked : (p : ℕ) → 7 ≤ p → p < length m → get_or m p false ≡ true → next_id m p ≡ Some (Marker p, 0)
   unfolding ahead_or
-  id_marked p l h e = sym (id_high m p (At p) l (hunt_by p h true e))
+  id_marked p l h e = sym (id_high m p (Some p) l (hunt_by p h true e))
 
   id_bare : (p : ℕ) → 7 ≤ p → p < length m → get_or m p false ≡ false → next_id m p ≡ next_id m (p + 1)
   id_bare p l h e =
       sym (id_high m p (hunt m (p + 1)) l (hunt_by p h false e)) ∙ id_high m (p + 1) (hunt m (p + 1)) (omega arith) refl
 
-  id_end : (p : ℕ) → 7 ≤ p → length m ≤ p → next_id m p ≡ ComesTo R0 1
+  id_end : (p : ℕ) → 7 ≤ p → length m ≤ p → next_id m p ≡ Some (R0, 1)
   unfolding ahead_or hunt scan
-  id_end p l h = sym (id_high m p Nothing l (ap (λ (x : List Bool). scan x p) (drop_of_length-le m h)))
+  id_end p l h = sym (id_high m p None l (ap (λ (x : List Bool). scan x p) (drop_of_length-le m h)))
 
   from : {r : Spot} {p q i k j : ℕ} → next_id m p ≡ next_id m q → Walk m r q i k j → Walk m r p i k j
   from e (here n f c l) = here n (e ∙ f) c l
@@ -98,7 +97,7 @@ module _ (m : List Bool) where
         let z : p ≡ q = omega arith in
         let f : get_or m p false ≡ true = ap (λ (x : ℕ). get_or m x false) z ∙ mark in (
           0,
-          here 0 (id_marked p l (omega arith) f ∙ ap (λ (x : ℕ). ComesTo (Marker x) 0) z) (add-zero i) c,
+          here 0 (id_marked p l (omega arith) f ∙ ap (λ (x : ℕ). Some (Marker x, 0)) z) (add-zero i) c,
           ap (λ (x : ℕ). 0 + 1 + marked (drop (x + 1) m)) (sym z) ∙ sym (one_more p (omega arith) true f),
         )
     ahead (suc n) p i e l c = go (get_or m p false) refl (ahead n (p + 1) i (omega arith) (omega arith) c)
@@ -115,7 +114,7 @@ module _ (m : List Bool) where
 
   -- ---- to a record that is not ahead: all markers ahead, then R0 past the index
 
-  module _ (r : Spot) (k j : ℕ) (end : (p : ℕ) → next_id m p ≡ ComesTo R0 1 → Walk m r p 0 k j) where
+  module _ (r : Spot) (k j : ℕ) (end : (p : ℕ) → next_id m p ≡ Some (R0, 1) → Walk m r p 0 k j) where
     past_end : (p : ℕ) → 7 ≤ p → length m ≤ p → Walk m r p 0 (marked (drop p m) + k) j
     unfolding marked
     past_end p l h =

@@ -13,32 +13,30 @@ use Rattle.cells.proofs.Laws.{overlay_none, get_or-bytes_of}
 use Rattle.cells.proofs.Marks.{both_never}
 use Rattle.cells.proofs.Numbers.{Bytes}
 use Rattle.rows.specs.declared.{Row.Row}
-use Rattle.words.specs.declared.{Word.Word, Tested.Tested}
+use Rattle.words.specs.declared.{Word.Word, Directive.Directive}
 use Rattle.words.specs.Words.{word_bytes, chains, suppresses, stored}
-use Rattle.areas.specs.declared.{Area.Area, CountRead.CountRead}
+use Rattle.areas.specs.declared.{Area.Area, Counts.Counts}
 use Rattle.areas.specs.Areas.{readable, area_bytes, row_of, count_area, counts_of, counts_at, read_count}
 use Rattle.hunt.specs.declared.{Spot.Spot}
-use Rattle.hunt.specs.declared.Next.TheVariants.{ComesTo}
 use Rattle.hunt.specs.Hunt.{next_id, count_first}
 use Rattle.compare.specs.declared.{Compared.Compared}
 use Rattle.compare.specs.Compare.{compared}
 use Rattle.compare.proofs.Laws.{compared_same}
 use Rattle.pack.specs.declared.{Shape.Shape}
-use Rattle.held.specs.declared.{Selection.Selection, Position.Position, Orders.Orders}
+use Rattle.held.specs.declared.{Position.Position, Orders.Orders}
 use Rattle.held.specs.Held.{no_sense, rested}
 use Rattle.table.specs.declared.{How.How, Aim.Aim, Serves.Serves, Rule.Rule}
 use Rattle.table.specs.Table.{count, selects, search_row, find, controls, searches, rule_of}
 use Rattle.turn.specs.declared.{Ending.Ending}
 use Rattle.turn.specs.Turn.{Tracks, TrackArea, Takes, Turn, turn, given, transfer_of, wants, report_of, is_check, position_at, after}
-use Rattle.command.specs.declared.{Got.Got, Task.Task}
-use Rattle.command.specs.declared.Got.TheVariants.{Sees, Fails}
-use Rattle.command.specs.declared.Plan.TheVariants.{Refuses, Works}
+use Rattle.command.specs.declared.{Task.Task}
 use Rattle.command.specs.Command.{marks_of, licensed, task, tallies, on_record, on_next, aimed, unless_barred, plan_of, area_if, named, named_by, on_head, areas_of, all_read, counts_in, gets, areas_read, sight, sense_after, position_after, orders_after, end_turn_at, end_turn, id_bytes, id_of, field_of, comparison, satisfies, satisfies_field, equal_only, satisfied, wholly, field_turn, search_turn, act_turn, has_read, ready_by, plan_reads, ready_turn, rule_turn, command}
 use Rattle.command.proofs.Turns.{plan_turn}
 use Rattle.command.proofs.Seen.{area-bytes}
 use Rattle.channel.specs.Channel.{fetched, placed, bytes_moved, moves_any, length_counts, wrong_length, ends_well, stride, goes_on, onward, held_after, status_after, with_status, storage_after, World, world, jumped}
 use Rattle.chain.specs.Step.{under, track_under, next, tracks_of, lay_on, turn_of, settled, obeyed, step_by, step}
 use Rattle.claim_back.specs.Found.{id_at, search_id}
+use Rattle.std.specs.Prelude.{Some, None, Ok, Err, Result}
 
 -- ---- five bytes as one number
 
@@ -121,36 +119,36 @@ rule_is = refl
 
 module _ (g : Shape) (t : Tracks) (s : Position) (o : Orders) (v : List ℕ) (x : Spot) (n : ℕ) where
   abbrev comes_to : Task
-  comes_to = task s.head (count_first x) (Selection.On x) (o.tally + n)
+  comes_to = task s.head (count_first x) (Some x) (o.tally + n)
 
-  plan31 : next_id (marks (t s.head)) s.place ≡ ComesTo x n → o.tally + n ≤ 1 → plan_of rule31 (marks_of t) s o ≡ Works comes_to
+  plan31 : next_id (marks (t s.head)) s.place ≡ Some (x, n) → o.tally + n ≤ 1 → plan_of rule31 (marks_of t) s o ≡ Ok comes_to
   unfolding plan_of licensed unless_barred aimed marks_of on_next on_record tallies
   plan31 e h =
       ap (on_next rule31 o s.head) e
-      ∙ ap (λ (b : Bool). pick b (Refuses Row.SecondIndex) (Works comes_to)) (le-ltb 1 (o.tally + n) h)
+      ∙ ap (λ (b : Bool). pick b (Err Row.SecondIndex) (Ok comes_to)) (le-ltb 1 (o.tally + n) h)
 
-  got31 : readable (t s.head) (count_area (count_first x)) ≡ true → gets count t s.head (count_first x) ≡ Sees (counts_at (t s.head) (count_first x))
+  got31 : readable (t s.head) (count_area (count_first x)) ≡ true → gets count t s.head (count_first x) ≡ Ok (counts_at (t s.head) (count_first x))
   unfolding gets areas_of on_head all_read counts_in named_by named area_if read_count row_of
   got31 e =
       ap (λ (b : Bool).
       pick b
-      (all_read t (on_head s.head (named_by (count_first x) false false (pick b (CountRead.Reads (counts_at (t s.head) (count_first x))) CountRead.Fails))) (Sees (counts_at (t s.head) (count_first x))))
-      (Fails Row.UnreadableCount)) e
+      (all_read t (on_head s.head (named_by (count_first x) false false (pick b (Some (counts_at (t s.head) (count_first x))) None))) (Ok (counts_at (t s.head) (count_first x))))
+      (Err Row.UnreadableCount)) e
 
   -- it comes to a record whose count is readable, and takes five bytes
   abbrev turn31 : Turn
   turn31 =
       turn (pick (satisfied How.IfEqual (id_at (t s.head) x) v) Ending.Satisfied Ending.Normal) (Takes id_bytes)
       (areas_of count t s.head (count_first x)) [] (position_at s.cylinder s.head (count_first x) no_sense)
-      (after o 0x31 (wholly How.IfEqual (id_at (t s.head) x) v) (o.tally + n) (Selection.On x))
+      (after o 0x31 (wholly How.IfEqual (id_at (t s.head) x) v) (o.tally + n) (Some x))
 
-  search31 : next_id (marks (t s.head)) s.place ≡ ComesTo x n → o.tally + n ≤ 1 → readable (t s.head) (count_area (count_first x)) ≡ true
+  search31 : next_id (marks (t s.head)) s.place ≡ Some (x, n) → o.tally + n ≤ 1 → readable (t s.head) (count_area (count_first x)) ≡ true
       → command g t s o 0x31 v ≡ turn31
   unfolding command rule_turn ready_turn ready_by has_read plan_reads act_turn search_turn field_of field_turn end_turn end_turn_at position_after orders_after sense_after sight areas_read id_at id_of
   search31 e h r =
       ap (λ (z : Rule). rule_turn g t 0x31 z s o v) rule_is
       ∙ ap (plan_turn g t s o 0x31 v rule31) (plan31 e h)
-      ∙ ap (λ (z : Got). ready_turn g t s o v (areas_of count t s.head (count_first x)) (has_read 0x31 rule31 s o comes_to z)) (got31 r)
+      ∙ ap (λ (z : Result Counts Row). ready_turn g t s o v (areas_of count t s.head (count_first x)) (has_read 0x31 rule31 s o comes_to z)) (got31 r)
 
 -- ---- the channel's end of it: five bytes moved of five, so the chain goes on, 16 on where it was satisfied
 
@@ -191,14 +189,14 @@ module _ (g : Shape) (w : World) where
       world
       (record {
         position = position_at w.held.position.cylinder w.held.position.head (count_first x) no_sense;
-        orders = after w.held.orders 0x31 b n (Selection.On x);
+        orders = after w.held.orders 0x31 b n (Some x);
         channel = onward w.held.channel (pick b (word_bytes + word_bytes) word_bytes);
       })
       w.storage w.cells
 
-  pub search_step : (p flags : ℕ) (x r : Spot) (n h : ℕ) (b : Bool) → next w ≡ Tested.Obey (search_id p flags) → chains (search_id p flags) ≡ true
+  pub search_step : (p flags : ℕ) (x r : Spot) (n h : ℕ) (b : Bool) → next w ≡ Ok (Directive.Obey (search_id p flags)) → chains (search_id p flags) ≡ true
       → fetched w.storage (search_id p flags) ≡ id_at (track_under g w) r
-      → next_id (marks (track_under g w)) w.held.position.place ≡ ComesTo x n → w.held.orders.tally + n ≡ h → h ≤ 1
+      → next_id (marks (track_under g w)) w.held.position.place ≡ Some (x, n) → w.held.orders.tally + n ≡ h → h ≤ 1
       → readable (track_under g w) (count_area (count_first x)) ≡ true
       → satisfied How.IfEqual (id_at (track_under g w) x) (id_at (track_under g w) r) ≡ b → step g w ≡ searched x h b
   unfolding step step_by obeyed turn_of track_under under tracks_of
@@ -212,12 +210,12 @@ module _ (g : Shape) (w : World) where
       (search31 g tr s o (fetched w.storage (search_id p flags)) x n e (subst (λ (z : ℕ). z ≤ 1) (sym c) l) read
       ∙ (λ i.
       turn (pick (satisfied How.IfEqual (id_at at x) (sent i)) Ending.Satisfied Ending.Normal) (Takes id_bytes) (areas_of count tr s.head (count_first x)) []
-      (position_at s.cylinder s.head (count_first x) no_sense) (after o 0x31 (wholly How.IfEqual (id_at at x) (sent i)) (c i) (Selection.On x)))
+      (position_at s.cylinder s.head (count_first x) no_sense) (after o 0x31 (wholly How.IfEqual (id_at at x) (sent i)) (c i) (Some x)))
       ∙ (λ i.
       turn (pick (sat i) Ending.Satisfied Ending.Normal) (Takes id_bytes) (areas_of count tr s.head (count_first x)) []
-      (position_at s.cylinder s.head (count_first x) no_sense) (after o 0x31 ((by_whole at x r ∙ sat) i) h (Selection.On x))))
+      (position_at s.cylinder s.head (count_first x) no_sense) (after o 0x31 ((by_whole at x r ∙ sat) i) h (Some x))))
       ∙ ends g w p flags chained _ _ _ b
 
-  pub tic_step : (a : ℕ) → next w ≡ Tested.Jump a → step g w ≡ world (jumped w.held a) w.storage w.cells
+  pub tic_step : (a : ℕ) → next w ≡ Ok (Directive.Jump a) → step g w ≡ world (jumped w.held a) w.storage w.cells
   unfolding step step_by
   tic_step a is = ap (step_by g w) is

@@ -10,7 +10,7 @@ use lib.Dec.{ltb, eqb}
 use borrow.Author.Tests.{ltb-true, ltb-false, lt-ltb}
 use Rattle.cells.specs.Cells.{pick, both, part, bytes_of}
 use Rattle.cells.proofs.Tests.{first_of, second_of, first_picked, second_picked, both_of}
-use Rattle.areas.specs.declared.{Area.Area, Part.Part, Counts.Counts, CountRead.CountRead}
+use Rattle.areas.specs.declared.{Area.Area, Part.Part, Counts.Counts}
 use Rattle.areas.specs.Areas.{home_area, count_area, key_area, data_area, readable, row_of, area_bytes, counts_at, read_count}
 use Rattle.pack.specs.declared.{Head.Head, Shape.Shape}
 use Rattle.held.specs.declared.{Position.Position, Orders.Orders}
@@ -18,14 +18,14 @@ use Rattle.table.specs.declared.{Names.Names, Act.Act}
 use Rattle.table.specs.Table.{rule_of}
 use Rattle.turn.specs.declared.Ending.TheVariants.{Normal, Exception}
 use Rattle.turn.specs.Turn.{Tracks, Gives, Turn, check_turn}
-use Rattle.command.specs.declared.{Got.Got, Task.Task}
-use Rattle.command.specs.declared.Got.TheVariants.{Sees, Fails}
-use Rattle.command.specs.declared.Plan.TheVariants.{Works}
+use Rattle.command.specs.declared.{Task.Task}
 use Rattle.command.specs.Command.{marks_of, plan_of, area_if, named, named_by, on_head, areas_of, areas_at, all_read, no_counts, counts_in, gets, seen_with, seen_of, areas_read, sight, end_turn_at, end_turn, ending_of, count_moved, offered, read_turn, act_turn, job_of, command}
 use Rattle.command.proofs.Seen.{area-bytes, record_key, record_body}
 use Rattle.claim_track.specs.Lasting.{ReadsAs}
 use Rattle.claim_back.specs.Back.{Sent, asked}
 use Rattle.claim_back.proofs.Plans.{NamesCount, sees_turn, fails_turn}
+use Rattle.std.specs.Prelude.{Some, None, Ok, Err, Result}
+use Rattle.rows.specs.declared.{Row.Row}
 
 -- the record whose count area is at c, which says n, holds what was sent: all of it, or all but a key that was passed over
 pub record Holds (t : List ℕ) (c : ℕ) (n : Counts) (x : Sent) (keyed : Bool) : Type 0 where
@@ -42,38 +42,38 @@ pub record Holds (t : List ℕ) (c : ℕ) (n : Counts) (x : Sent) (keyed : Bool)
 
 module _ (tr : Tracks) (h : Head) where
   -- an area that is readable, if it is named
-  if_read : (b : Bool) (a : Area) (l : List Area) (y : Got) → (b ≡ true → readable (tr h) a ≡ true)
+  if_read : (b : Bool) (a : Area) (l : List Area) (y : Result Counts Row) → (b ≡ true → readable (tr h) a ≡ true)
       → all_read tr (on_head h (area_if b a ++ l)) y ≡ all_read tr (on_head h l) y
   unfolding all_read area_if on_head
   if_read true a l y f = first_picked (readable (tr h) a) (all_read tr (on_head h l) y) _ (f refl)
   if_read false a l y f = refl
 
-  last_read : (b : Bool) (a : Area) (y : Got) → (b ≡ true → readable (tr h) a ≡ true) → all_read tr (on_head h (area_if b a)) y ≡ y
+  last_read : (b : Bool) (a : Area) (y : Result Counts Row) → (b ≡ true → readable (tr h) a ≡ true) → all_read tr (on_head h (area_if b a)) y ≡ y
   unfolding all_read area_if on_head
   last_read true a y f = first_picked (readable (tr h) a) y _ (f refl)
   last_read false a y f = refl
 
   module _ (c : ℕ) (n : Counts) (count : readable (tr h) (count_area c) ≡ true) (counts : counts_at (tr h) c ≡ n) (key body : Bool) where
     -- the count first
-    count_read : gets (Names.Count key body) tr h c ≡ all_read tr (on_head h (named c key body n)) (Sees n)
+    count_read : gets (Names.Count key body) tr h c ≡ all_read tr (on_head h (named c key body n)) (Ok n)
     unfolding gets areas_of on_head all_read counts_in read_count named_by
     count_read =
         first_picked (readable (tr h) (count_area c)) _ _ count
-        ∙ ap (λ (b : Bool). all_read tr (on_head h (named_by c key body (pick b (CountRead.Reads (counts_at (tr h) c)) CountRead.Fails))) (Sees (counts_at (tr h) c))) count
-        ∙ ap (λ (m : Counts). all_read tr (on_head h (named c key body m)) (Sees m)) counts
+        ∙ ap (λ (b : Bool). all_read tr (on_head h (named_by c key body (pick b (Some (counts_at (tr h) c)) None))) (Ok (counts_at (tr h) c))) count
+        ∙ ap (λ (m : Counts). all_read tr (on_head h (named c key body m)) (Ok m)) counts
 
     pub record_sees : (both key (ltb 0 n.kl) ≡ true → readable (tr h) (key_area c n) ≡ true)
-        → (both body (ltb 0 n.dl) ≡ true → readable (tr h) (data_area c n) ≡ true) → gets (Names.Count key body) tr h c ≡ Sees n
+        → (both body (ltb 0 n.dl) ≡ true → readable (tr h) (data_area c n) ≡ true) → gets (Names.Count key body) tr h c ≡ Ok n
     unfolding named
     record_sees p q =
-        count_read ∙ if_read (both key (ltb 0 n.kl)) (key_area c n) (area_if (both body (ltb 0 n.dl)) (data_area c n)) (Sees n) p
-        ∙ last_read (both body (ltb 0 n.dl)) (data_area c n) (Sees n) q
+        count_read ∙ if_read (both key (ltb 0 n.kl)) (key_area c n) (area_if (both body (ltb 0 n.dl)) (data_area c n)) (Ok n) p
+        ∙ last_read (both body (ltb 0 n.dl)) (data_area c n) (Ok n) q
 
-    key_fails : both key (ltb 0 n.kl) ≡ true → readable (tr h) (key_area c n) ≡ false → gets (Names.Count key body) tr h c ≡ Fails (row_of Part.Key)
+    key_fails : both key (ltb 0 n.kl) ≡ true → readable (tr h) (key_area c n) ≡ false → gets (Names.Count key body) tr h c ≡ Err (row_of Part.Key)
     unfolding named area_if on_head all_read key_area
     key_fails k r =
         count_read
-        ∙ ap (λ (b : Bool). all_read tr (on_head h (area_if b (key_area c n) ++ area_if (both body (ltb 0 n.dl)) (data_area c n))) (Sees n)) k
+        ∙ ap (λ (b : Bool). all_read tr (on_head h (area_if b (key_area c n) ++ area_if (both body (ltb 0 n.dl)) (data_area c n))) (Ok n)) k
         ∙ second_picked (readable (tr h) (key_area c n)) _ _ r
 
 -- ---- the bytes
@@ -98,7 +98,7 @@ some_or_none t a m v size none some = go (ltb 0 m) refl
 
 module _ (tr : Tracks) (h : Head) (c : ℕ) (n : Counts) (x : Sent) (keyed : Bool) (H : Holds (tr h) c n x keyed) (key body : Bool)
     (knows : key ≡ true → keyed ≡ true) where
-  pub holds_sees : gets (Names.Count key body) tr h c ≡ Sees n
+  pub holds_sees : gets (Names.Count key body) tr h c ≡ Ok n
   holds_sees =
       record_sees tr h c n H.count H.counts key body
       (λ e. (H.key (knows (first_of key _ e)) (ltb-true 0 n.kl (second_of key _ e))).reads)
@@ -128,11 +128,11 @@ pub record Gave (excepts : Bool) (x : Sent) (v : List ℕ) (y : Turn) : Type 0 w
   pub moves : y.moves ≡ Gives v
 
 module _ (g : Shape) (tr : Tracks) (s : Position) (o : Orders) (code : ℕ) (v : List ℕ) (k : Task)
-    (plan : plan_of (rule_of code) (marks_of tr) s o ≡ Works k) (counted : Bool) (act : (rule_of code).act ≡ Act.Read counted) where
+    (plan : plan_of (rule_of code) (marks_of tr) s o ≡ Ok k) (counted : Bool) (act : (rule_of code).act ≡ Act.Read counted) where
   abbrev names : Names
   names = (rule_of code).names
 
-  gave : (n : Counts) (x : Sent) (w : List ℕ) → gets names tr k.head k.place ≡ Sees n → length x.body ≡ n.dl
+  gave : (n : Counts) (x : Sent) (w : List ℕ) → gets names tr k.head k.place ≡ Ok n → length x.body ≡ n.dl
       → offered names counted n (seen_of tr (areas_at names tr k)) ≡ w → Gave (rule_of code).excepts x w (command g tr s o code v)
   unfolding act_turn read_turn end_turn end_turn_at ending_of sight areas_read
   gave n x w e l q =
@@ -162,9 +162,9 @@ module _ (g : Shape) (tr : Tracks) (s : Position) (o : Orders) (code : ℕ) (v :
       ∙ key_fails tr k.head k.place n count counts N.key N.body (both_of key (lt-ltb 0 n.kl some)) lost)
 
   -- of the home address
-  home_sees : readable (tr k.head) home_area ≡ true → gets Names.HomeAddress tr k.head k.place ≡ Sees no_counts
+  home_sees : readable (tr k.head) home_area ≡ true → gets Names.HomeAddress tr k.head k.place ≡ Ok no_counts
   unfolding gets areas_of on_head all_read counts_in
-  home_sees r = first_picked (readable (tr k.head) home_area) (Sees no_counts) _ r
+  home_sees r = first_picked (readable (tr k.head) home_area) (Ok no_counts) _ r
 
   home_offered : offered Names.HomeAddress counted no_counts (seen_of tr (areas_at Names.HomeAddress tr k)) ≡ area_bytes (tr k.head) home_area
   unfolding offered areas_of on_head seen_of seen_with

@@ -13,7 +13,7 @@ use Rattle.cells.specs.Cells.{both, either, part, padded, track_cells}
 use Rattle.cells.proofs.Laws.{length-padded}
 use Rattle.cells.proofs.Marks.{both_never}
 use Rattle.cells.proofs.Numbers.{Bytes, part_bytes}
-use Rattle.words.specs.declared.{Word.Word, Tested.Tested}
+use Rattle.words.specs.declared.{Word.Word, Directive.Directive, Cause.Cause}
 use Rattle.words.proofs.Obeys.{TestedIn, tested_in}
 use Rattle.areas.specs.declared.{Area.Area, Counts.Counts}
 use Rattle.areas.specs.Areas.{home_area, count_area, counts_of, counts_at, key_area, data_area, area_cells, readable}
@@ -22,8 +22,7 @@ use Rattle.hunt.specs.declared.{Spot.Spot}
 use Rattle.hunt.specs.Hunt.{count_first}
 use Rattle.pack.specs.declared.{Shape.Shape}
 use Rattle.pack.specs.Pack.{start_of, track_at}
-use Rattle.held.specs.declared.{Selection.Selection, Orders.Orders}
-use Rattle.held.specs.declared.Selection.TheVariants.{On}
+use Rattle.held.specs.declared.{Orders.Orders}
 use Rattle.format.specs.Format.{new_counts}
 use Rattle.table.specs.declared.{Write.Write, Act.Act}
 use Rattle.table.specs.Table.{rule_of}
@@ -46,17 +45,18 @@ use Rattle.claim_back.specs.Back.{Work, OnHome, OnRecord, OnNothing, selected, b
 use Rattle.claim_back.proofs.Counts.{new_moved}
 use Rattle.claim_back.proofs.Plans.{update_read}
 use Rattle.claim_back.proofs.Given.{Holds}
+use Rattle.std.specs.Prelude.{Ok, Some, Result, Option}
 
 -- ---- the track left
 
-module _ (g : Shape) (w : World) (L : Legal g w) (d : Word) (word : next w ≡ Tested.Obey d) where
+module _ (g : Shape) (w : World) (L : Legal g w) (d : Word) (word : next w ≡ Ok (Directive.Obey d)) where
   pub area_inside : d.address + d.count ≤ length w.storage
   unfolding next
   area_inside = subst (TestedIn w.storage) word (tested_in w.storage w.held.channel.next w.held.channel.after_tic)
 
   pub track-left : track_at (step g w).cells (track_on g w * track_cells) ≡ lay (turn_of g w d).lays (track_under g w)
   unfolding step step_by under start_of
-  track-left = ap (λ (x : Tested). track_at (step_by g w x).cells (track_on g w * track_cells)) word ∙ Next.track-left g w L d area_inside
+  track-left = ap (λ (x : Result Directive Cause). track_at (step_by g w x).cells (track_on g w * track_cells)) word ∙ Next.track-left g w L d area_inside
 
 -- ---- a new record
 
@@ -144,11 +144,11 @@ pub record HoldsSome (t : List ℕ) (c : ℕ) (x : Sent) (keyed : Bool) : Type 0
   pub counts : Counts
   pub holds : Holds t c counts x keyed
 
-abbrev pub sent_on : Write → List ℕ → Selection → List ℕ → Sent
+abbrev pub sent_on : Write → List ℕ → Option Spot → List ℕ → Sent
 sent_on k t y v = sent_by k (counts_on t y) v
 
 -- on t', which a write k with the bytes v left of t, with y selected
-abbrev pub LeftIn : Write → List ℕ → List ℕ → Selection → List ℕ → Work → Type 0
+abbrev pub LeftIn : Write → List ℕ → List ℕ → Option Spot → List ℕ → Work → Type 0
 LeftIn k t t' y v OnHome = ReadsAs t' home_area (sent_on k t y v).home × ((sent_on k t y v).body ≡ [])
 LeftIn k t t' y v (OnRecord spot) = HoldsSome t' (count_first spot) (sent_on k t y v) (not (passes_key k (counts_on t y)))
 LeftIn k t t' y v OnNothing = ⊥
@@ -192,20 +192,20 @@ module _ (g : Shape) (w : World) (d : Word) (k : Write) (W : Wrote g w d k) wher
       let b : Bool = not (bars (rule_of d.code).bar o.mask) in
       ap (λ (z : Bool). both l (both b z)) e ∙ ap (both l) (both_never b) ∙ both_never l
 
-  module _ (spot : Spot) (is : o.selection ≡ On spot) where
-    reached : (i : ℕ) → reaches k (count_first spot) (counts_at t (count_first spot)) i ≡ false → record_taken k (On spot) ≡ On spot
+  module _ (spot : Spot) (is : o.selection ≡ Some spot) where
+    reached : (i : ℕ) → reaches k (count_first spot) (counts_at t (count_first spot)) i ≡ false → record_taken k (Some spot) ≡ Some spot
         → act_reaches (rule_of d.code).act t o.selection i ≡ false
     unfolding act_reaches reaches_from
     reached i e q =
         ap (λ (a : Act). act_reaches a t o.selection i) W.act
-        ∙ ap (λ (y : Selection). reaches_from k t (record_taken k y) i) is ∙ ap (λ (y : Selection). reaches_from k t y i) q ∙ e
+        ∙ ap (λ (y : Option Spot). reaches_from k t (record_taken k y) i) is ∙ ap (λ (y : Option Spot). reaches_from k t y i) q ∙ e
 
-    pub cell_kept : record_taken k (On spot) ≡ On spot → (i : ℕ) → reaches k (count_first spot) (counts_at t (count_first spot)) i ≡ false
+    pub cell_kept : record_taken k (Some spot) ≡ Some spot → (i : ℕ) → reaches k (count_first spot) (counts_at t (count_first spot)) i ≡ false
         → get_or t' i 0 ≡ get_or t i 0
     unfolding track_under tracks_of under turn_of track_after
     cell_kept q i e = confined.cells i (may_not i (reached i e q))
 
-    kept : record_taken k (On spot) ≡ On spot → (a : Area) → ((i : ℕ) → In a i → reaches k (count_first spot) (counts_at t (count_first spot)) i ≡ false)
+    kept : record_taken k (Some spot) ≡ Some spot → (a : Area) → ((i : ℕ) → In a i → reaches k (count_first spot) (counts_at t (count_first spot)) i ≡ false)
         → area_cells t' a ≡ area_cells t a
     unfolding track_under tracks_of under turn_of track_after
     kept q a f = same_cells t t' a confined.long (λ i h. cell_kept q i (f i h))
@@ -213,7 +213,7 @@ module _ (g : Shape) (w : World) (d : Word) (k : Write) (W : Wrote g w d k) wher
 -- ---- each write
 
 module _ (g : Shape) (w : World) (d : Word) (key : Bool) (W : Wrote g w d (Write.Update key)) (spot : Spot)
-    (is : w.held.orders.selection ≡ On spot) where
+    (is : w.held.orders.selection ≡ Some spot) where
   abbrev k : Write
   k = Write.Update key
 
@@ -223,7 +223,7 @@ module _ (g : Shape) (w : World) (d : Word) (key : Bool) (W : Wrote g w d (Write
   abbrev m : Counts
   m = counts_at (track_under g w) c
 
-  taken : record_taken k (On spot) ≡ On spot
+  taken : record_taken k (Some spot) ≡ Some spot
   unfolding record_taken
   taken = refl
 
@@ -238,7 +238,7 @@ module _ (g : Shape) (w : World) (d : Word) (key : Bool) (W : Wrote g w d (Write
       P spot is W.done
 
 module _ (g : Shape) (w : World) (d : Word) where
-  abbrev LeftThere : Write → Selection → Work → Type 0
+  abbrev LeftThere : Write → Option Spot → Work → Type 0
   LeftThere k y z = LeftIn k (track_under g w) (lay (turn_of g w d).lays (track_under g w)) y (fetched w.storage d) z
 
   left-each : (k : Write) → Wrote g w d k → Permitted (rule_of d.code) w.held.orders → (spot : Spot) → Took k w.held.orders.selection spot
@@ -248,10 +248,10 @@ module _ (g : Shape) (w : World) (d : Word) where
   left-each Write.HomeAddress W P spot took B = (B, refl)
   left-each Write.R0 W P spot took B = record { counts = _; holds = new_holds _ _ _ _ _ (sent_bytes g w d Write.R0 W) B }
   left-each Write.CountKeyData W P spot took B =
-      subst (λ (y : Selection). LeftThere Write.CountKeyData y (behind (track_under g w) y)) (sym took)
+      subst (λ (y : Option Spot). LeftThere Write.CountKeyData y (behind (track_under g w) y)) (sym took)
       (record { counts = _; holds = new_holds _ _ _ _ _ (sent_bytes g w d Write.CountKeyData W) B.back })
   left-each (Write.Update key) W P spot took B =
-      subst (λ (y : Selection). LeftThere (Write.Update key) y (selected y)) (sym took)
+      subst (λ (y : Option Spot). LeftThere (Write.Update key) y (selected y)) (sym took)
       (record { counts = _; holds = update_holds key _ _ _ _ B (count-back g w d key W spot took P) })
 
   pub left_in : (k : Write) → Wrote g w d k → LeftThere k w.held.orders.selection (left_by k (track_under g w) w.held.orders.selection)
@@ -265,7 +265,7 @@ module _ (g : Shape) (w : World) (d : Word) where
 
 -- ---- a key that an 05 passed over
 
-module _ (g : Shape) (w : World) (d : Word) (W : Wrote g w d (Write.Update false)) (spot : Spot) (is : w.held.orders.selection ≡ On spot) where
+module _ (g : Shape) (w : World) (d : Word) (W : Wrote g w d (Write.Update false)) (spot : Spot) (is : w.held.orders.selection ≡ Some spot) where
   abbrev update : Write
   update = Write.Update false
 
@@ -278,7 +278,7 @@ module _ (g : Shape) (w : World) (d : Word) (W : Wrote g w d (Write.Update false
   pub count-readable : readable there (count_area (count_first spot)) ≡ true
   unfolding left_by selected
   count-readable =
-      (subst (λ (y : Selection). LeftIn update (track_under g w) there w.held.orders.selection (fetched w.storage d) (selected y)) is (left_in g w d update W)
+      (subst (λ (y : Option Spot). LeftIn update (track_under g w) there w.held.orders.selection (fetched w.storage d) (selected y)) is (left_in g w d update W)
       ).holds.count
 
   pub key_same : 0 < (counts_at (track_under g w) (count_first spot)).kl

@@ -11,18 +11,15 @@ use Rattle.cells.proofs.Tests.{first_of, second_of, first_picked}
 use Rattle.rows.specs.declared.{Row.Row}
 use Rattle.areas.specs.declared.{Counts.Counts}
 use Rattle.areas.specs.Areas.{count_area, readable}
-use Rattle.hunt.specs.declared.{Spot.Spot, Next.Next}
+use Rattle.hunt.specs.declared.{Spot.Spot}
 use Rattle.hunt.specs.Hunt.{count_first, next_record}
 use Rattle.pack.specs.declared.{Shape.Shape}
-use Rattle.held.specs.declared.{Selection.Selection, Position.Position, Orders.Orders}
-use Rattle.held.specs.declared.Selection.TheVariants.{Nothing, On}
+use Rattle.held.specs.declared.{Position.Position, Orders.Orders}
 use Rattle.table.specs.declared.{Licence.Licence, Bar.Bar, Aim.Aim, Names.Names, Write.Write, Act.Act, Rule.Rule}
 use Rattle.table.specs.Table.{rule_of, controls, searches, reads, writes, serves_data, serves_key}
 use Rattle.table.proofs.Laws.{every, each, of_every}
 use Rattle.turn.specs.Turn.{Tracks, Turn, is_check, check_turn}
-use Rattle.command.specs.declared.{Got.Got, Task.Task, Plan.Plan}
-use Rattle.command.specs.declared.Got.TheVariants.{Sees, Fails}
-use Rattle.command.specs.declared.Plan.TheVariants.{Refuses, Works}
+use Rattle.command.specs.declared.{Task.Task}
 use Rattle.command.specs.Command.{Marks, marks_of, licensed, task, home_place, most_tally, tallies, on_record, on_next, on_selected, to_next, to_served, aimed, unless_barred, plan_of, areas_at, gets, sight, act_turn, job_of, has_read, ready_by, plan_reads, ready_turn, rule_turn, command}
 use Rattle.command.proofs.Planned.{is_selected}
 use Rattle.claim_track.proofs.Works.{names_home, names_count}
@@ -30,6 +27,7 @@ use Rattle.command.proofs.Seen.{record_readable}
 use Rattle.claim_track.specs.Lasting.{Permitted}
 use Rattle.claim_track.proofs.Works.{permitted_plan}
 use Rattle.claim_back.specs.Back.{OnHome, OnRecord, OnNothing, selected, comes_to, by_marker, taken_by}
+use Rattle.std.specs.Prelude.{Some, None, Ok, Err, Result, Option}
 
 -- ---- what the rows of the reads, and of the updates, have in common
 
@@ -89,7 +87,7 @@ any-licensed Licence.WrittenOrEqual o e = absurd (false≢true e)
 any-licensed Licence.EqualIdOrKey o e = absurd (false≢true e)
 any-licensed Licence.EqualId o e = absurd (false≢true e)
 
-free_passes : (b : Bar) (n : ℕ) (p : Plan) → is_free b ≡ true → unless_barred b n p ≡ p
+free_passes : (b : Bar) (n : ℕ) (p : Result Task Row) → is_free b ≡ true → unless_barred b n p ≡ p
 unfolding is_free unless_barred
 free_passes Bar.Nothing n p e = refl
 free_passes (Bar.Seeks k) n p e = absurd (false≢true e)
@@ -130,25 +128,25 @@ same_record : (p q : Spot) → OnRecord p ≡ OnRecord q → p ≡ q
 same_record p q e = cc
 
 module _ (r : Rule) (m : Marks) (s : Position) (o : Orders) (quiet : tallies r.act ≡ false) where
-  abbrev works_on : Spot → Plan
-  works_on spot = Works (task s.head (count_first spot) (pick r.selects (On spot) Nothing) 0)
+  abbrev works_on : Spot → Result Task Row
+  works_on spot = Ok (task s.head (count_first spot) (pick r.selects (Some spot) None) 0)
 
   pub on_record_lem : (spot : Spot) (n : ℕ) → on_record r o s.head spot n ≡ works_on spot
   unfolding on_record
   on_record_lem spot n =
-      ap (λ (b : Bool). pick (both b (ltb most_tally (o.tally + n))) (Refuses Row.SecondIndex)
-      (Works (task s.head (count_first spot) (pick r.selects (On spot) Nothing) (pick b (o.tally + n) 0)))) quiet
+      ap (λ (b : Bool). pick (both b (ltb most_tally (o.tally + n))) (Err Row.SecondIndex)
+      (Ok (task s.head (count_first spot) (pick r.selects (Some spot) None) (pick b (o.tally + n) 0)))) quiet
 
   module _ (spot : Spot) where
-    on_next_lem : (x : Next) → comes_to x ≡ OnRecord spot → on_next r o s.head x ≡ works_on spot
+    on_next_lem : (x : Option (Spot × ℕ)) → comes_to x ≡ OnRecord spot → on_next r o s.head x ≡ works_on spot
     unfolding comes_to on_next
-    on_next_lem (Next.ComesTo p n) e = on_record_lem p n ∙ ap works_on (same_record p spot e)
-    on_next_lem Next.NoMarker e = nothing_else spot e
+    on_next_lem (Some (p, n)) e = on_record_lem p n ∙ ap works_on (same_record p spot e)
+    on_next_lem None e = nothing_else spot e
 
-    on_selected_lem : (x : Selection) (other : Plan) → selected x ≡ OnRecord spot → on_selected r o s.head x other ≡ works_on spot
+    on_selected_lem : (x : Option Spot) (other : Result Task Row) → selected x ≡ OnRecord spot → on_selected r o s.head x other ≡ works_on spot
     unfolding selected on_selected
-    on_selected_lem Nothing other e = nothing_else spot e
-    on_selected_lem (On p) other e = on_record_lem p 0 ∙ ap works_on (same_record p spot e)
+    on_selected_lem None other e = nothing_else spot e
+    on_selected_lem (Some p) other e = on_record_lem p 0 ∙ ap works_on (same_record p spot e)
 
     to_next_lem : by_marker (m s.head) s ≡ OnRecord spot → to_next r m s o ≡ works_on spot
     unfolding by_marker to_next
@@ -177,15 +175,15 @@ record_never spot e = absurd (let z : ◌≡◌ {A = ℕ} 0 1 = cc in omega arit
 nothing_never : {A : Type 0} → OnNothing ≡ OnHome → A
 nothing_never e = absurd (let z : ◌≡◌ {A = ℕ} 0 1 = cc in omega arith)
 
-next_never : {A : Type 0} (x : Next) → comes_to x ≡ OnHome → A
+next_never : {A : Type 0} (x : Option (Spot × ℕ)) → comes_to x ≡ OnHome → A
 unfolding comes_to
-next_never (Next.ComesTo p n) e = record_never p e
-next_never Next.NoMarker e = nothing_never e
+next_never (Some (p, n)) e = record_never p e
+next_never None e = nothing_never e
 
-selected_never : {A : Type 0} (x : Selection) → selected x ≡ OnHome → A
+selected_never : {A : Type 0} (x : Option Spot) → selected x ≡ OnHome → A
 unfolding selected
-selected_never Nothing e = nothing_never e
-selected_never (On p) e = record_never p e
+selected_never None e = nothing_never e
+selected_never (Some p) e = record_never p e
 
 module _ (m : List Bool) (s : Position) (o : Orders) where
   served_never : {A : Type 0} (b : Bool) → pick b (selected o.selection) (by_marker m s) ≡ OnHome → A
@@ -237,7 +235,7 @@ names_home_lem (Names.Count key body) e = absurd (false≢true e)
 
 module _ (code : ℕ) (counted : Bool) (act : (rule_of code).act ≡ Act.Read counted) (m : Marks) (s : Position) (o : Orders) where
   pub record_plan : (spot : Spot) → taken_by (rule_of code).aim (m s.head) s o ≡ OnRecord spot
-      → plan_of (rule_of code) m s o ≡ Works (task s.head (count_first spot) (pick (rule_of code).selects (On spot) Nothing) 0)
+      → plan_of (rule_of code) m s o ≡ Ok (task s.head (count_first spot) (pick (rule_of code).selects (Some spot) None) 0)
   record_plan spot e = read_aims code counted act m s o ∙ takes_record_lem (rule_of code) m s o (read_quiet code counted act) spot (rule_of code).aim e
 
   pub record_named : (spot : Spot) → taken_by (rule_of code).aim (m s.head) s o ≡ OnRecord spot → NamesCount (rule_of code).names
@@ -248,7 +246,7 @@ module _ (code : ℕ) (counted : Bool) (act : (rule_of code).act ≡ Act.Read co
     aims_home : (rule_of code).aim ≡ Aim.HomeAddress
     aims_home = takes_home (m s.head) s o (rule_of code).aim e
 
-    pub home_plan : plan_of (rule_of code) m s o ≡ Works (task s.head home_place Nothing 0)
+    pub home_plan : plan_of (rule_of code) m s o ≡ Ok (task s.head home_place None 0)
     unfolding aimed
     home_plan = read_aims code counted act m s o ∙ ap (aimed (rule_of code) m s o) aims_home
 
@@ -260,31 +258,31 @@ module _ (code : ℕ) (counted : Bool) (act : (rule_of code).act ≡ Act.Read co
 -- ---- the turn, from a plan that works
 
 module _ (g : Shape) (t : Tracks) (s : Position) (o : Orders) (code : ℕ) (v : List ℕ) (k : Task)
-    (plan : plan_of (rule_of code) (marks_of t) s o ≡ Works k) where
+    (plan : plan_of (rule_of code) (marks_of t) s o ≡ Ok k) where
   abbrev rule : Rule
   rule = rule_of code
 
-  got_turn : (x : Got) → gets rule.names t k.head k.place ≡ x
+  got_turn : (x : Result Counts Row) → gets rule.names t k.head k.place ≡ x
       → command g t s o code v ≡ ready_turn g t s o v (areas_at rule.names t k) (has_read code rule s o k x)
   unfolding command rule_turn ready_by plan_reads
   got_turn x e =
-      ap (λ (p : Plan). ready_turn g t s o v (plan_reads t rule p) (ready_by t code rule s o p)) plan
-      ∙ ap (λ (y : Got). ready_turn g t s o v (areas_at rule.names t k) (has_read code rule s o k y)) e
+      ap (λ (p : Result Task Row). ready_turn g t s o v (plan_reads t rule p) (ready_by t code rule s o p)) plan
+      ∙ ap (λ (y : Result Counts Row). ready_turn g t s o v (areas_at rule.names t k) (has_read code rule s o k y)) e
 
-  pub sees_turn : (n : Counts) → gets rule.names t k.head k.place ≡ Sees n
+  pub sees_turn : (n : Counts) → gets rule.names t k.head k.place ≡ Ok n
       → command g t s o code v ≡ act_turn g rule.act (sight t (job_of code rule s o k n) v)
   unfolding ready_turn has_read
-  sees_turn n e = got_turn (Sees n) e
+  sees_turn n e = got_turn (Ok n) e
 
-  pub fails_turn : (row : Row) → gets rule.names t k.head k.place ≡ Fails row
+  pub fails_turn : (row : Row) → gets rule.names t k.head k.place ≡ Err row
       → command g t s o code v ≡ check_turn s o (areas_at rule.names t k) row
   unfolding ready_turn has_read
-  fails_turn row e = got_turn (Fails row) e
+  fails_turn row e = got_turn (Err row) e
 
 -- ---- an update has read the count of the record selected
 
 selected_aims : (r : Rule) (m : Marks) (s : Position) (o : Orders) (a : Aim) → is_selected a ≡ true
-    → aimed r m s o a ≡ on_selected r o s.head o.selection (Refuses Row.WrongBefore)
+    → aimed r m s o a ≡ on_selected r o s.head o.selection (Err Row.WrongBefore)
 unfolding is_selected aimed
 selected_aims r m s o Aim.Stays e = absurd (false≢true e)
 selected_aims r m s o Aim.HomeAddress e = absurd (false≢true e)
@@ -296,7 +294,7 @@ selected_aims r m s o Aim.NextForKey e = absurd (false≢true e)
 selected_aims r m s o Aim.Selected e = refl
 
 module _ (g : Shape) (t : Tracks) (s : Position) (o : Orders) (code : ℕ) (v : List ℕ) (key : Bool) (act : (rule_of code).act ≡ Act.Write (Write.Update key))
-    (permitted : Permitted (rule_of code) o) (spot : Spot) (is : o.selection ≡ On spot) where
+    (permitted : Permitted (rule_of code) o) (spot : Spot) (is : o.selection ≡ Some spot) where
   update_row : both (is_selected (rule_of code).aim) (names_count (rule_of code).names) ≡ true
   unfolding of_act of_write
   update_row = act_row (Act.Write (Write.Update key)) code act
@@ -306,24 +304,24 @@ module _ (g : Shape) (t : Tracks) (s : Position) (o : Orders) (code : ℕ) (v : 
   update_quiet = ap tallies act
 
   abbrev k : Task
-  k = task s.head (count_first spot) (pick (rule_of code).selects (On spot) Nothing) 0
+  k = task s.head (count_first spot) (pick (rule_of code).selects (Some spot) None) 0
 
-  update_plan : plan_of (rule_of code) (marks_of t) s o ≡ Works k
+  update_plan : plan_of (rule_of code) (marks_of t) s o ≡ Ok k
   unfolding on_selected
   update_plan =
       permitted_plan (rule_of code) (marks_of t) s o permitted
       ∙ selected_aims (rule_of code) (marks_of t) s o (rule_of code).aim (first_of (is_selected (rule_of code).aim) _ update_row)
-      ∙ ap (λ (x : Selection). on_selected (rule_of code) o s.head x (Refuses Row.WrongBefore)) is
+      ∙ ap (λ (x : Option Spot). on_selected (rule_of code) o s.head x (Err Row.WrongBefore)) is
       ∙ on_record_lem (rule_of code) (marks_of t) s o update_quiet spot 0
 
   pub update_read : is_check (command g t s o code v).ending ≡ false → readable (t s.head) (count_area (count_first spot)) ≡ true
   unfolding is_check check_turn
   update_read done = go (gets (rule_of code).names t s.head (count_first spot)) refl
     where
-      go : (x : Got) → gets (rule_of code).names t s.head (count_first spot) ≡ x → readable (t s.head) (count_area (count_first spot)) ≡ true
-      go (Sees n) e =
+      go : (x : Result Counts Row) → gets (rule_of code).names t s.head (count_first spot) ≡ x → readable (t s.head) (count_area (count_first spot)) ≡ true
+      go (Ok n) e =
           let N : NamesCount (rule_of code).names = names_count_lem (rule_of code).names (second_of (is_selected (rule_of code).aim) _ update_row) in
           record_readable t s.head (count_first spot) N.key N.body n
           (ap (λ (x : Names). gets x t s.head (count_first spot)) (sym N.is) ∙ e)
-      go (Fails row) e =
+      go (Err row) e =
           absurd (false≢true (sym done ∙ ap (λ (x : Turn). is_check x.ending) (fails_turn g t s o code v k update_plan row e)))

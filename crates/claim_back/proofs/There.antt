@@ -15,8 +15,6 @@ use Rattle.hunt.specs.declared.{Spot.Spot}
 use Rattle.hunt.specs.declared.Spot.TheVariants.{R0, Marker}
 use Rattle.hunt.specs.Hunt.{count_first, spot_fits}
 use Rattle.pack.specs.declared.{Shape.Shape}
-use Rattle.held.specs.declared.{Selection.Selection}
-use Rattle.held.specs.declared.Selection.TheVariants.{On}
 use Rattle.table.specs.declared.{Write.Write}
 use Rattle.table.specs.Table.{rule_of}
 use Rattle.turn.specs.Turn.{is_check, lay}
@@ -34,6 +32,7 @@ use Rattle.claim_back.specs.Back.{Work, OnHome, OnRecord, OnNothing, selected, b
 use Rattle.claim_back.specs.Found.{id_at, id_sent, Left, StillThere}
 use Rattle.claim_back.proofs.Left.{track-left, before_both, leaves, cell_kept, left_in, LeftIn}
 use Rattle.claim_back.proofs.After.{track-kept}
+use Rattle.std.specs.Prelude.{Some, Option}
 
 -- a marker that stands is a record
 marked : (t : List ℕ) (p : ℕ) → 7 ≤ p → get_or t p 0 ≡ 512 → IsRecord t (Marker p)
@@ -54,7 +53,7 @@ module _ (g : Shape) (w : World) (d : Word) where
   t' = lay (turn_of g w d).lays t
 
   -- the record of an update
-  kept_record : (key : Bool) → Wrote g w d (Write.Update key) → (spot : Spot) → w.held.orders.selection ≡ On spot → IsRecord t spot → IsRecord t' spot
+  kept_record : (key : Bool) → Wrote g w d (Write.Update key) → (spot : Spot) → w.held.orders.selection ≡ Some spot → IsRecord t spot → IsRecord t' spot
   unfolding spot_fits count_first record_taken
   kept_record key W R0 is B = refl
   kept_record key W (Marker q) is B =
@@ -68,10 +67,10 @@ module _ (g : Shape) (w : World) (d : Word) where
   there_in Write.HomeAddress W spot took B = tt
   there_in Write.R0 W spot took B = refl
   there_in Write.CountKeyData W spot took B =
-      subst (λ (y : Selection). ThereIn t' (behind t y)) (sym took)
+      subst (λ (y : Option Spot). ThereIn t' (behind t y)) (sym took)
       (marked t' (end_at t (count_first spot)) (unfold end_by record_cells in omega arith) B.mark)
   there_in (Write.Update key) W spot took B =
-      subst (λ (y : Selection). ThereIn t' (selected y)) (sym took)
+      subst (λ (y : Option Spot). ThereIn t' (selected y)) (sym took)
       (kept_record key W spot took (unfold SelectedOn in subst (SelectedOn (marks t)) took (selected_on _ w.held.orders (ordered g w W.legal))))
 
   left_there : (k : Write) → Wrote g w d k → ThereIn t' (left_by k t w.held.orders.selection)

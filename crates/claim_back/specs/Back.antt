@@ -2,17 +2,17 @@
 -- that takes that record (selected or come to by its marker; 16 for R0, 1A for the home address) and names only areas that the write laid or read, its area in
 -- storage clear of command words and the status word, places, of each area that the write laid and as far as its count goes, the bytes sent, zeros for those
 -- missing; DL 0 as document 01 says. (A key that was unreadable before an 05 stays so: a read that names it ends in Data Check.)"
-use Rattle.std.specs.Prelude.{ℕ, ◌+◌, ◌-◌, ◌<◌, min, ◌≡◌, Bool, true, false, not, List, [], ◌++◌, length, get_or, ltb, eqb}
+use Rattle.std.specs.Prelude.{ℕ, ◌+◌, ◌-◌, ◌<◌, min, ◌≡◌, Bool, true, false, not, List, [], ◌++◌, length, get_or, ltb, eqb, Some, None, Ok, Option}
 use Rattle.cells.specs.Cells.{pick, both, either, be16, part, padded, marks}
-use Rattle.words.specs.declared.{Word.Word, Tested.Tested}
+use Rattle.words.specs.declared.{Word.Word, Directive.Directive}
 use Rattle.words.specs.Words.{status_at}
 use Rattle.areas.specs.declared.{Counts.Counts}
 use Rattle.areas.specs.Areas.{home_bytes, counts_at, key_area, readable}
-use Rattle.hunt.specs.declared.{Spot.Spot, Next.Next}
+use Rattle.hunt.specs.declared.{Spot.Spot}
 use Rattle.hunt.specs.Hunt.{count_first, next_record}
 use Rattle.recording.specs.Recording.{count_sent}
 use Rattle.pack.specs.declared.{Shape.Shape}
-use Rattle.held.specs.declared.{Selection.Selection, Position.Position, Orders.Orders, Held.Held}
+use Rattle.held.specs.declared.{Position.Position, Orders.Orders, Held.Held}
 use Rattle.turn.specs.declared.{Ending.Ending}
 use Rattle.turn.specs.Turn.{Gives, report_of, is_check}
 use Rattle.table.specs.declared.{Aim.Aim, Names.Names, Write.Write, Act.Act}
@@ -20,8 +20,8 @@ use Rattle.table.specs.Table.{rule_of, serves_data, serves_key}
 use Rattle.command.specs.Command.{no_counts, count_moved, key_sent}
 use Rattle.channel.specs.Channel.{fetched, goes_on, World, world}
 use Rattle.chain.specs.Step.{track_under, next, turn_of, step, run, Legal}
-use Rattle.host.specs.declared.{Answer.Answer, Guarded.Guarded}
-use Rattle.host.specs.Host.{guard_of, if_passes, starts, goes}
+use Rattle.host.specs.declared.{Answer.Answer}
+use Rattle.host.specs.Host.{guard_of, if_passes, starts, goes, no_refusal}
 use Rattle.sound.specs.Sound.{end_at}
 use Rattle.claim_box.specs.Boxes.{all_under}
 use Rattle.claim_box.specs.Confined.{in_status, spares_byte, track_on}
@@ -35,25 +35,25 @@ pub data Work : Type 0 where
   OnRecord : Spot → Work
   OnNothing : Work
 
-unfoldable pub selected : Selection → Work
-selected Selection.Nothing = OnNothing
-selected (Selection.On spot) = OnRecord spot
+unfoldable pub selected : Option Spot → Work
+selected None = OnNothing
+selected (Some spot) = OnRecord spot
 
 -- behind the record selected
-unfoldable pub behind : List ℕ → Selection → Work
-behind t Selection.Nothing = OnNothing
-behind t (Selection.On spot) = OnRecord (Spot.Marker (end_at t (count_first spot)))
+unfoldable pub behind : List ℕ → Option Spot → Work
+behind t None = OnNothing
+behind t (Some spot) = OnRecord (Spot.Marker (end_at t (count_first spot)))
 
 -- a write on the track t with this record selected
-unfoldable pub left_by : Write → List ℕ → Selection → Work
+unfoldable pub left_by : Write → List ℕ → Option Spot → Work
 left_by Write.HomeAddress t x = OnHome
 left_by Write.R0 t x = OnRecord Spot.R0
 left_by Write.CountKeyData t x = behind t x
 left_by (Write.Update key) t x = selected x
 
-unfoldable pub comes_to : Next → Work
-comes_to (Next.ComesTo spot n) = OnRecord spot
-comes_to Next.NoMarker = OnNothing
+unfoldable pub comes_to : Option (Spot × ℕ) → Work
+comes_to (Some (spot, n)) = OnRecord spot
+comes_to None = OnNothing
 
 -- by its marker, among the markers m
 unfoldable pub by_marker : List Bool → Position → Work
@@ -145,9 +145,9 @@ pub data Since (g : Shape) (m : ℕ) (w : World) : World → Type 0 where
 -- ---- a write, and a read of what it wrote
 
 -- the count of the record selected
-unfoldable pub counts_on : List ℕ → Selection → Counts
-counts_on t Selection.Nothing = no_counts
-counts_on t (Selection.On spot) = counts_at t (count_first spot)
+unfoldable pub counts_on : List ℕ → Option Spot → Counts
+counts_on t None = no_counts
+counts_on t (Some spot) = counts_at t (count_first spot)
 
 abbrev pub counts_there : Shape → World → Counts
 counts_there g w = counts_on (track_under g w) w.held.orders.selection
@@ -156,7 +156,7 @@ counts_there g w = counts_on (track_under g w) w.held.orders.selection
 pub record Wrote (g : Shape) (w : World) (d : Word) (k : Write) : Type 0 where
   pub legal : Legal g w
   pub lent : all_under bytes w.storage ≡ true
-  pub word : next w ≡ Tested.Obey d
+  pub word : next w ≡ Ok (Directive.Obey d)
   pub act : (rule_of d.code).act ≡ Act.Write k
   pub done : is_check (turn_of g w d).ending ≡ false
 
@@ -165,7 +165,7 @@ pub record Rereads (g : Shape) (w : World) (d : Word) (k : Write) (u : World) (e
   pub wrote : Wrote g w d k
   pub since : Since g (track_on g w) (step g w) u
   pub legal : Legal g u
-  pub word : next u ≡ Tested.Obey e
+  pub word : next u ≡ Ok (Directive.Obey e)
   pub act : (rule_of e.code).act ≡ Act.Read counted
   pub track : track_on g u ≡ track_on g w
   pub takes : taken_by (rule_of e.code).aim (marks (track_under g u)) u.held.position u.held.orders
@@ -203,7 +203,7 @@ pub record Back (g : Shape) (u : World) (e : Word) (x : Sent) (v : List ℕ) : T
 -- the record selected has a key, which cannot be read
 pub record KeyUnreadable (g : Shape) (w : World) : Type 0 where
   pub spot : Spot
-  pub is : w.held.orders.selection ≡ Selection.On spot
+  pub is : w.held.orders.selection ≡ Some spot
   pub some : 0 < (counts_there g w).kl
   pub unreadable : readable (track_under g w) (key_area (count_first spot) (counts_there g w)) ≡ false
 
@@ -214,19 +214,19 @@ pub record WrittenReadsBack (g : Shape) : Type 0 where
   pub kept : (m : ℕ) (w v : World) → Since g m w v
       → (track v.cells m ≡ track w.cells m) × (length v.cells ≡ length w.cells)
   -- .. and where the write is word j + 1 of a go of n, what that go leaves comes after it, if no write of its later words is done on that track
-  pub rest : (m : ℕ) (v : World) (n j : ℕ) → guard_of g v ≡ Guarded.Passes → j < n → (run g j v).held.channel.going ≡ true
+  pub rest : (m : ℕ) (v : World) (n j : ℕ) → guard_of g v ≡ no_refusal → j < n → (run g j v).held.channel.going ≡ true
       → spares_done g m (n - j - 1) (step g (run g j v)) ≡ true → Since g m (step g (run g j v)) (goes g n v).left
   -- "places, of each area that the write laid and as far as its count goes, the bytes sent, zeros for those missing"
   pub read : (w : World) (d : Word) (k : Write) (u : World) (e : Word) (c : Bool) → Rereads g w d k u e c → names_passed g w k e ≡ false
       → Back g u e (sent_at g w d k) (asked_by e c (sent_at g w d k))
   -- where the read is word j + 1 of a go of n, and no later word of it may change the byte: it is there when the go ends
-  pub go : (w : World) (d : Word) (k : Write) (v : World) (n j : ℕ) (e : Word) (c : Bool) → guard_of g v ≡ Guarded.Passes → j < n
+  pub go : (w : World) (d : Word) (k : Write) (v : World) (n j : ℕ) (e : Word) (c : Bool) → guard_of g v ≡ no_refusal → j < n
       → (run g j v).held.channel.going ≡ true → Rereads g w d k (run g j v) e c → names_passed g w k e ≡ false
       → (i : ℕ) → i < min e.count (length (asked_by e c (sent_at g w d k))) → clear g (run g j v) e i ≡ true
       → spares_byte g (e.address + i) (n - j - 1) (step g (run g j v)) ≡ true
       → get_or (goes g n v).left.storage (e.address + i) 0 ≡ get_or (asked_by e c (sent_at g w d k)) i 0
   -- .. and if the chain ends with that read, the host hears so and finds the read's unit status in the status word
-  pub go_ends : (w : World) (d : Word) (k : Write) (v : World) (n j : ℕ) (e : Word) (c : Bool) → guard_of g v ≡ Guarded.Passes → j < n
+  pub go_ends : (w : World) (d : Word) (k : Write) (v : World) (n j : ℕ) (e : Word) (c : Bool) → guard_of g v ≡ no_refusal → j < n
       → (run g j v).held.channel.going ≡ true → Rereads g w d k (run g j v) e c → names_passed g w k e ≡ false
       → goes_on e (report_of (turn_of g (run g j v) e)) ≡ false
       → ((goes g n v).answer ≡ Answer.ChainEnded) × (get_or (goes g n v).left.storage (status_at + 4) 0 ≡ pick (no_data e (sent_at g w d k)) 0x0D 0x0C)
@@ -237,6 +237,6 @@ pub record WrittenReadsBack (g : Shape) : Type 0 where
   pub lost : (w : World) (d : Word) (u : World) (e : Word) (c : Bool) (K : KeyUnreadable g w) → Rereads g w d (Write.Update false) u e c
       → names_key (rule_of e.code).names ≡ true → DataChecked (key_area (count_first K.spot) (counts_there g w)) u (step g u)
   -- .. and where that read is word j + 1 of a go, the host hears that the chain ended there
-  pub lost_go : (w : World) (d : Word) (v : World) (n j : ℕ) (e : Word) (c : Bool) (K : KeyUnreadable g w) → guard_of g v ≡ Guarded.Passes → j < n
+  pub lost_go : (w : World) (d : Word) (v : World) (n j : ℕ) (e : Word) (c : Bool) (K : KeyUnreadable g w) → guard_of g v ≡ no_refusal → j < n
       → (run g j v).held.channel.going ≡ true → Rereads g w d (Write.Update false) (run g j v) e c → names_key (rule_of e.code).names ≡ true
       → ((goes g n v).answer ≡ Answer.ChainEnded) × DataChecked (key_area (count_first K.spot) (counts_there g w)) (run g j v) (goes g n v).left

@@ -1,21 +1,20 @@
 -- On a soundly written track whose IDs, R0's too, differ, a loop of 31 over five bytes and TIC from any place, with index tally 0 and allowance enough,
 -- comes to the record whose ID was sent (REFERENCE 9.6). Document 01, "Where the head stands", "Commands" and "Channel words".
-use Rattle.std.specs.Prelude.{ℕ, ◌+◌, ◌-◌, ◌*◌, ◌<◌, ◌≤◌, ◌≡◌, Bool, true, false, List, [], ◌∷◌, ◌⊎◌, take, ltb}
+use Rattle.std.specs.Prelude.{ℕ, ◌+◌, ◌-◌, ◌*◌, ◌<◌, ◌≤◌, ◌≡◌, Bool, true, false, List, [], ◌∷◌, ◌⊎◌, take, ltb, Ok, Some}
 use Rattle.cells.specs.Cells.{pick, marks}
-use Rattle.words.specs.declared.{Word.Word, Tested.Tested}
+use Rattle.words.specs.declared.{Word.Word, Directive.Directive}
 use Rattle.words.specs.Words.{word_bytes, along, chains, tested}
 use Rattle.areas.specs.Areas.{counts_at}
 use Rattle.hunt.specs.declared.{Spot.Spot}
 use Rattle.hunt.specs.Hunt.{count_first}
 use Rattle.pack.specs.declared.{Shape.Shape}
 use Rattle.table.specs.declared.{Write.Write}
-use Rattle.held.specs.declared.{Selection.Selection, Held.Held}
+use Rattle.held.specs.declared.{Held.Held}
 use Rattle.held.specs.Held.{no_sense}
 use Rattle.command.specs.Command.{id_bytes, id_of}
 use Rattle.channel.specs.Channel.{fetched, World, world}
 use Rattle.chain.specs.Step.{track_under, step, run, Legal}
-use Rattle.host.specs.declared.{Guarded.Guarded}
-use Rattle.host.specs.Host.{guard_of, ran, goes}
+use Rattle.host.specs.Host.{guard_of, ran, goes, no_refusal}
 use Rattle.sound.specs.Sound.{Sound}
 use Rattle.claim_track.specs.Damage.{IsRecord}
 use Rattle.claim_box.specs.Figures.{one_pack}
@@ -47,9 +46,9 @@ search_id p flags = record { code = 0x31; address = p; flags = flags; count = id
 
 -- at address a such a word, which chains and passes its tests, after a TIC too; 8 on a TIC back to it
 pub record Loop (s : List ℕ) (a p flags : ℕ) : Type 0 where
-  pub search : (after_tic : Bool) → tested s a after_tic ≡ Tested.Obey (search_id p flags)
+  pub search : (after_tic : Bool) → tested s a after_tic ≡ Ok (Directive.Obey (search_id p flags))
   pub chained : chains (search_id p flags) ≡ true
-  pub back : tested s (along a word_bytes) false ≡ Tested.Jump a
+  pub back : tested s (along a word_bytes) false ≡ Ok (Directive.Jump a)
 
 -- a chain whose next word is such a loop's first, at any place, with index tally 0, on such a track
 pub record Loops (g : Shape) (w : World) (p flags : ℕ) : Type 0 where
@@ -79,7 +78,7 @@ found_held h r = record {
     before = 0x31;
     whole = true;
     tally = pick (ltb h.position.place (count_first r)) 0 1;
-    selection = Selection.On r;
+    selection = Some r;
   };
   channel = record { going = true; key = h.channel.key; next = along h.channel.next (word_bytes + word_bytes); after_tic = false };
 }
@@ -105,7 +104,7 @@ pub record Comes (g : Shape) (w : World) (r : Spot) : Type 0 where
   pub found : run g words w ≡ found_at w r
   -- any allowance that is enough passes there, a go's too
   pub enough : (n : ℕ) → words ≤ n → run g n w ≡ run g (n - words) (found_at w r)
-  pub by_go : (n : ℕ) → words ≤ n → guard_of g w ≡ Guarded.Passes → goes g n w ≡ ran (run g (n - words) (found_at w r))
+  pub by_go : (n : ℕ) → words ≤ n → guard_of g w ≡ no_refusal → goes g n w ≡ ran (run g (n - words) (found_at w r))
 
 -- ---- "comes to it": to what a write left
 

@@ -8,31 +8,30 @@ use lib.ListN.{length, get_or}
 use Rattle.cells.specs.Cells.{pick, track_cells}
 use Rattle.cells.proofs.Laws.{length-overlay}
 use Rattle.cells.proofs.Tests.{pick_all}
-use Rattle.words.specs.declared.{Begun.Begun, Tested.Tested}
-use Rattle.words.specs.declared.Begun.TheVariants.{Begins, Refused}
-use Rattle.words.specs.declared.Tested.TheVariants.{Obey, Jump, Bad}
 use Rattle.words.specs.Words.{begun_by}
 use Rattle.pack.specs.declared.{Shape.Shape}
 use Rattle.channel.specs.Channel.{World}
 use Rattle.chain.specs.Step.{run, Legal}
 use Rattle.host.specs.declared.Answer.TheVariants.{BadStart, NoChain, ChainGoing}
-use Rattle.host.specs.declared.{Guarded.Guarded}
-use Rattle.host.specs.declared.Guarded.TheVariants.{Passes, Answers}
-use Rattle.host.specs.Host.{Hears, hears, guard_of, guards, refuses_start, first_word, begins, starts, ran, goes, if_passes}
+use Rattle.host.specs.Host.{Hears, hears, guard_of, guards, refuses_start, first_word, begins, starts, ran, goes, if_passes, no_refusal}
 use Rattle.host.proofs.Laws.{passes_legal}
 use Rattle.claim_box.specs.Confined.{among, spares_cell, spares_byte, spares_track, CallConfined}
 use Rattle.claim_box.proofs.Outside.{overlay-kept}
 use Rattle.claim_box.proofs.Runs.{run_confined}
+use Rattle.std.specs.Prelude.{Some, None, Ok, Err, Result, Option}
+use Rattle.words.specs.declared.Directive.TheVariants.{Obey, Jump}
+use Rattle.host.specs.declared.{Answer.Answer}
+use Rattle.words.specs.declared.{Directive.Directive, Cause.Cause}
 
 -- ---- a go
 
 -- what holds of the world as it was, and of what a run of the allowance leaves where a test holds
 module _ (g : Shape) (n : ℕ) (w : World) (P : World → Type 0) (was : P w) (test : Bool) (runs : Legal g w → test ≡ true → P (run g n w)) where
-  go_by : (x : Guarded) (b : Bool) → guard_of g w ≡ x → if_passes x test ≡ true → P (guards x w (pick b (ran (run g n w)) (hears NoChain w))).left
+  go_by : (x : Result (Unit {0}) Answer) (b : Bool) → guard_of g w ≡ x → if_passes x test ≡ true → P (guards x w (pick b (ran (run g n w)) (hears NoChain w))).left
   unfolding guards if_passes ran
-  go_by Passes true p e = runs (passes_legal g w p) e
-  go_by Passes false p e = was
-  go_by (Answers a) b p e = was
+  go_by (Ok tt) true p e = runs (passes_legal g w p) e
+  go_by (Ok tt) false p e = was
+  go_by (Err a) b p e = was
 
   go_confined : if_passes (guard_of g w) test ≡ true → P (goes g n w).left
   unfolding goes
@@ -46,16 +45,16 @@ data Starts (w : World) (x : Hears) : Type 0 where
   refuses : x ≡ refuses_start w → Starts w x
 
 module _ (w : World) where
-  first_starts : (key next : ℕ) (x : Tested) → Starts w (first_word w key next x)
+  first_starts : (key next : ℕ) (x : Result Directive Cause) → Starts w (first_word w key next x)
   unfolding first_word
-  first_starts key next (Obey d) = alike refl refl
-  first_starts key next (Jump a) = refuses refl
-  first_starts key next (Bad cause) = refuses refl
+  first_starts key next (Ok (Obey d)) = alike refl refl
+  first_starts key next (Ok (Jump a)) = refuses refl
+  first_starts key next (Err cause) = refuses refl
 
-  begins-starts : (x : Begun) → Starts w (begins w x)
+  begins-starts : (x : Option (ℕ × ℕ)) → Starts w (begins w x)
   unfolding begins
-  begins-starts (Begins key first) = first_starts key _ _
-  begins-starts Refused = refuses refl
+  begins-starts (Some (key, first)) = first_starts key _ _
+  begins-starts None = refuses refl
 
   starts_cells : (x : Hears) → Starts w x → x.left.cells ≡ w.cells
   unfolding refuses_start
@@ -79,23 +78,23 @@ module _ (w : World) where
   starts_long room x (refuses e) = ap (λ (y : Hears). length y.left.storage) e ∙ length-overlay w.storage 68 _ (omega arith)
 
 module _ (g : Shape) (w : World) where
-  abbrev heard : Guarded → Hears
+  abbrev heard : Result (Unit {0}) Answer → Hears
   heard x = guards x w (pick w.held.channel.going (hears ChainGoing w) (begins w (begun_by w.storage)))
 
-  start_by : (x : Guarded) → Starts w (heard x)
+  start_by : (x : Result (Unit {0}) Answer) → Starts w (heard x)
   unfolding guards
-  start_by Passes = pick_all (Starts w) w.held.channel.going (alike refl refl) (begins-starts w (begun_by w.storage))
-  start_by (Answers a) = alike refl refl
+  start_by (Ok tt) = pick_all (Starts w) w.held.channel.going (alike refl refl) (begins-starts w (begun_by w.storage))
+  start_by (Err a) = alike refl refl
 
-  start_storage : (x : Guarded) → guard_of g w ≡ x → (i : ℕ) → among 68 2 i ≡ false → get_or (heard x).left.storage i 0 ≡ get_or w.storage i 0
+  start_storage : (x : Result (Unit {0}) Answer) → guard_of g w ≡ x → (i : ℕ) → among 68 2 i ≡ false → get_or (heard x).left.storage i 0 ≡ get_or w.storage i 0
   unfolding guards
-  start_storage Passes p i h = starts_storage w (passes_legal g w p).room (heard Passes) (start_by Passes) i h
-  start_storage (Answers a) p i h = refl
+  start_storage (Ok tt) p i h = starts_storage w (passes_legal g w p).room (heard no_refusal) (start_by no_refusal) i h
+  start_storage (Err a) p i h = refl
 
-  start_long : (x : Guarded) → guard_of g w ≡ x → length (heard x).left.storage ≡ length w.storage
+  start_long : (x : Result (Unit {0}) Answer) → guard_of g w ≡ x → length (heard x).left.storage ≡ length w.storage
   unfolding guards
-  start_long Passes p = starts_long w (passes_legal g w p).room (heard Passes) (start_by Passes)
-  start_long (Answers a) p = refl
+  start_long (Ok tt) p = starts_long w (passes_legal g w p).room (heard no_refusal) (start_by no_refusal)
+  start_long (Err a) p = refl
 
 module _ (g : Shape) (n : ℕ) (w : World) where
   SameCell : ℕ → World → Type 0
@@ -105,10 +104,10 @@ module _ (g : Shape) (n : ℕ) (w : World) where
   SameByte i v = get_or v.storage i 0 ≡ get_or w.storage i 0
 
   -- where nothing is asked of the words, nothing has to pass
-  asked : (x : Guarded) → if_passes x true ≡ true
+  asked : (x : Result (Unit {0}) Answer) → if_passes x true ≡ true
   unfolding if_passes
-  asked Passes = refl
-  asked (Answers a) = refl
+  asked (Ok tt) = refl
+  asked (Err a) = refl
 
   SameCells : World → Type 0
   SameCells v = length v.cells ≡ length w.cells

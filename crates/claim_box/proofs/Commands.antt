@@ -14,7 +14,7 @@ use Rattle.words.specs.declared.{Word.Word}
 use Rattle.areas.specs.declared.{Counts.Counts}
 use Rattle.hunt.specs.Hunt.{WholeTrack}
 use Rattle.pack.specs.declared.{Shape.Shape}
-use Rattle.held.specs.declared.{Selection.Selection, Position.Position, Orders.Orders}
+use Rattle.held.specs.declared.{Position.Position, Orders.Orders}
 use Rattle.table.specs.declared.{Write.Write, Act.Act, Rule.Rule}
 use Rattle.turn.specs.Turn.{Tracks, Piece, Moves, None, Gives, Takes, given, transfer_of, wants, Turn, report_of, lay, is_check, check_turn}
 use Rattle.command.specs.declared.{Task.Task}
@@ -30,6 +30,8 @@ use Rattle.claim_box.proofs.Outside.{overlay-kept}
 use Rattle.claim_box.proofs.Within.{Within, within_by, within_long, within_kept, within_on, write_within}
 use Rattle.claim_box.proofs.Acting as Acting
 use Rattle.claim_box.proofs.Acting.{on_selection, apt_write, apt_write_lem, Acting, acting_takes, obeys_all}
+use Rattle.std.specs.Prelude.{Option}
+use Rattle.hunt.specs.declared.{Spot.Spot}
 
 -- ---- cells
 
@@ -44,7 +46,7 @@ module _ (g : Shape) (t : Tracks) (s : Position) (o : Orders) (code : ℕ) (v : 
     selected-reaches w e i = go (acting_takes t s o r k n A e)
       where
         go : Acting.Takes t s o r k n o.selection → reaches w k.place n i ≡ reaches_from w (t s.head) o.selection i
-        go (Acting.takes spot p q c) = (λ j. reaches w (q j) (c j) i) ∙ ap (λ (y : Selection). reaches_from w (t s.head) y i) (sym p)
+        go (Acting.takes spot p q c) = (λ j. reaches w (q j) (c j) i) ∙ ap (λ (y : Option Spot). reaches_from w (t s.head) y i) (sym p)
 
     write_reaches : (w : Write) → apt_write w r ≡ true → (i : ℕ)
         → reaches w k.place n i ≡ reaches_from w (t s.head) (Confined.record_taken w o.selection) i

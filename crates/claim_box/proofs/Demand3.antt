@@ -9,9 +9,6 @@ use native.Mathlib.Omega.{arith}
 use borrow.Author.Tests.{not-true}
 use Rattle.cells.specs.Cells.{pick, both}
 use Rattle.cells.proofs.Tests.{first_of, second_of}
-use Rattle.words.specs.declared.{Tested.Tested, Begun.Begun}
-use Rattle.words.specs.declared.Tested.TheVariants.{Obey, Jump, Bad}
-use Rattle.words.specs.declared.Begun.TheVariants.{Begins, Refused}
 use Rattle.words.specs.Words.{along, tested, begun_by}
 use Rattle.areas.specs.declared.{Area.Area}
 use Rattle.pack.specs.declared.{Shape.Shape}
@@ -22,13 +19,15 @@ use Rattle.channel.specs.Channel.{World, world}
 use Rattle.chain.specs.Step.{under, track_under, step, run, held_fits, Legal}
 use Rattle.chain.proofs.Legal.{step_legal}
 use Rattle.chain.proofs.Runs.{run_on, run_idle, run_split, run_legal}
-use Rattle.host.specs.declared.{Answer.Answer, Guarded.Guarded}
+use Rattle.host.specs.declared.{Answer.Answer}
 use Rattle.host.specs.declared.Answer.TheVariants.{ChainEnded, AllowanceUsed, BadStart, NoChain, ChainGoing}
-use Rattle.host.specs.declared.Guarded.TheVariants.{Passes, Answers}
-use Rattle.host.specs.Host.{Hears, hears, guard_of, guards, refuses_start, first_word, begins, starts, ran, goes, if_passes}
+use Rattle.host.specs.Host.{Hears, hears, guard_of, guards, refuses_start, first_word, begins, starts, ran, goes, if_passes, no_refusal}
 use Rattle.host.proofs.Laws.{passes_legal}
 use Rattle.claim_box.specs.Demand3.{Harmed, next_writes, reads_it, spared, HostCall, start, go, hear, heard, left, spared_call, spared_calls, Alike, Agrees, AllAgree, none, more, DataChecked, FirstReads, EndsThere, Demand3}
 use Rattle.claim_box.proofs.Stepped.{marks_same, w_is, v_is, step_kept, step_broken}
+use Rattle.std.specs.Prelude.{Ok, Err, Some, None, Result, Option}
+use Rattle.words.specs.declared.Directive.TheVariants.{Obey, Jump}
+use Rattle.words.specs.declared.{Directive.Directive, Cause.Cause}
 
 module _ (g : Shape) (n s : ℕ) (x : Area) (c c' : List ℕ) (harm : Harmed n s x c c') where
   -- two worlds that are alike have one held state and storage, and these cells
@@ -62,10 +61,10 @@ module _ (g : Shape) (n s : ℕ) (x : Area) (c c' : List ℕ) (harm : Harmed n s
   told : (a : Answer) (w v : World) → Alike c c' w v → Agrees c c' (hears a w) (hears a v)
   told a w v k = record { answer = refl; left = k }
 
-  guarded : (y : Guarded) (w v : World) (p q : Hears) → Alike c c' w v → (y ≡ Passes → Agrees c c' p q) → Agrees c c' (guards y w p) (guards y v q)
+  guarded : (y : Result (Unit {0}) Answer) (w v : World) (p q : Hears) → Alike c c' w v → (y ≡ no_refusal → Agrees c c' p q) → Agrees c c' (guards y w p) (guards y v q)
   unfolding guards
-  guarded Passes w v p q k f = f refl
-  guarded (Answers a) w v p q k f = told a w v k
+  guarded (Ok tt) w v p q k f = f refl
+  guarded (Err a) w v p q k f = told a w v k
 
   ran-agrees : (w v : World) → Alike c c' w v → Agrees c c' (ran w) (ran v)
   unfolding ran
@@ -84,16 +83,16 @@ module _ (g : Shape) (n s : ℕ) (x : Area) (c c' : List ℕ) (harm : Harmed n s
     guard_same = rw (harm.long, ← marks_same n s x c c' harm (track_no g h.position.cylinder h.position.head))
 
     -- a start
-    first_agrees : (key next : ℕ) (y : Tested) → Agrees c c' (first_word w key next y) (first_word v key next y)
+    first_agrees : (key next : ℕ) (y : Result Directive Cause) → Agrees c c' (first_word w key next y) (first_word v key next y)
     unfolding first_word refuses_start
-    first_agrees key next (Obey d) = told AllowanceUsed _ _ (alike _ _)
-    first_agrees key next (Jump a) = told BadStart _ _ (alike _ _)
-    first_agrees key next (Bad cause) = told BadStart _ _ (alike _ _)
+    first_agrees key next (Ok (Obey d)) = told AllowanceUsed _ _ (alike _ _)
+    first_agrees key next (Ok (Jump a)) = told BadStart _ _ (alike _ _)
+    first_agrees key next (Err cause) = told BadStart _ _ (alike _ _)
 
-    begins_agree : (b : Begun) → Agrees c c' (begins w b) (begins v b)
+    begins_agree : (b : Option (ℕ × ℕ)) → Agrees c c' (begins w b) (begins v b)
     unfolding begins refuses_start
-    begins_agree (Begins key first) = first_agrees key (along first 0) (tested st (along first 0) false)
-    begins_agree Refused = told BadStart _ _ (alike _ _)
+    begins_agree (Some (key, first)) = first_agrees key (along first 0) (tested st (along first 0) false)
+    begins_agree None = told BadStart _ _ (alike _ _)
 
     started : (b : Bool) → Agrees c c' (pick b (hears ChainGoing w) (begins w (begun_by st))) (pick b (hears ChainGoing v) (begins v (begun_by st)))
     started true = told ChainGoing _ _ (alike _ _)

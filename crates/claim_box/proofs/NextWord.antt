@@ -9,8 +9,7 @@ use lib.ListN.{length, get_or, length-take}
 use Rattle.cells.specs.Cells.{pick, both, overlay, track_cells}
 use Rattle.cells.proofs.Laws.{get_or-part, length-overlay, overlay_same}
 use Rattle.rows.specs.declared.{Row.Row}
-use Rattle.words.specs.declared.{Word.Word, Status.Status, Tested.Tested}
-use Rattle.words.specs.declared.Tested.TheVariants.{Obey, Jump, Bad}
+use Rattle.words.specs.declared.{Word.Word, Status.Status, Directive.Directive, Cause.Cause}
 use Rattle.words.specs.Words.{status_at, status_bytes, stored}
 use Rattle.words.proofs.Obeys.{TestedIn, tested_in}
 use Rattle.pack.specs.declared.{Shape.Shape}
@@ -25,6 +24,8 @@ use Rattle.chain.proofs.Legal.{inside, track_whole, turn-left, put_back, step_si
 use Rattle.claim_box.specs.Confined.{among, may_change, may_store, track_after, CommandConfined, word_changes, changes, in_status, word_stores, stores, StepConfined}
 use Rattle.claim_box.proofs.Outside.{pick_by, neither, out_of, out_test, in_between, overlay-kept, overlay_inside, put_found}
 use Rattle.claim_box.proofs.Commands.{command_confined}
+use Rattle.std.specs.Prelude.{Ok, Err, Result}
+use Rattle.words.specs.declared.Directive.TheVariants.{Obey, Jump}
 
 -- the status word
 pub stored-kept : (s : List ℕ) (x : Status) (i : ℕ) → status_at ≤ length s → in_status i ≡ false → get_or (stored s x) i 0 ≡ get_or s i 0
@@ -37,12 +38,12 @@ unfolding placed
 placed_long s d v r = length-overlay s d.address _ (omega (arith, length-take d.count v, r))
 
 -- off the track under the head
-pub none_elsewhere : (g : Shape) (w : World) (x : Tested) (i : ℕ) → among (under g w.held) track_cells i ≡ false → word_changes g w i x ≡ false
+pub none_elsewhere : (g : Shape) (w : World) (x : Result Directive Cause) (i : ℕ) → among (under g w.held) track_cells i ≡ false → word_changes g w i x ≡ false
 unfolding word_changes
-none_elsewhere g w (Obey d) i e =
+none_elsewhere g w (Ok (Obey d)) i e =
     ap (λ (b : Bool). both b (may_change (rule_of d.code) w.held.orders (track_under g w) (i - under g w.held))) e
-none_elsewhere g w (Jump a) i e = refl
-none_elsewhere g w (Bad cause) i e = refl
+none_elsewhere g w (Ok (Jump a)) i e = refl
+none_elsewhere g w (Err cause) i e = refl
 
 module _ (g : Shape) (w : World) (L : Legal g w) where
   abbrev start : ℕ
@@ -88,7 +89,7 @@ module _ (g : Shape) (w : World) (L : Legal g w) where
     track-left =
         ap (λ (c : List ℕ). track_at c start) back ∙ put_found w.cells _ start (confined.long ∙ (track_whole g w L).long) (inside g w L)
 
-    obeyed_cells : (i : ℕ) → word_changes g w i (Obey d) ≡ false → get_or (obeyed g w d).cells i 0 ≡ get_or w.cells i 0
+    obeyed_cells : (i : ℕ) → word_changes g w i (Ok (Obey d)) ≡ false → get_or (obeyed g w d).cells i 0 ≡ get_or w.cells i 0
     unfolding word_changes track_under tracks_of under turn_of track_after
     obeyed_cells i e =
         ap (λ (c : List ℕ). get_or c i 0) back ∙ put_kept _ (confined.long ∙ (track_whole g w L).long) i _ confined.cells e
@@ -103,7 +104,7 @@ module _ (g : Shape) (w : World) (L : Legal g w) where
     put_long : length st' ≡ length w.storage
     put_long = placed_long w.storage d (given x.moves) r
 
-    obeyed_storage : (i : ℕ) → word_stores g w i (Obey d) ≡ false → get_or (obeyed g w d).storage i 0 ≡ get_or w.storage i 0
+    obeyed_storage : (i : ℕ) → word_stores g w i (Ok (Obey d)) ≡ false → get_or (obeyed g w d).storage i 0 ≡ get_or w.storage i 0
     unfolding word_stores obeyed settled storage_after with_status turn_of
     obeyed_storage i e =
         let n = neither (may_store (rule_of d.code).act d (bytes_moved d (report_of x)) i) (both (not (goes_on d (report_of x))) (in_status i)) e in
@@ -116,27 +117,27 @@ module _ (g : Shape) (w : World) (L : Legal g w) where
 
   -- ---- any word
 
-  takes_cells : (x : Tested) → TestedIn w.storage x → (i : ℕ) → word_changes g w i x ≡ false → get_or (step_by g w x).cells i 0 ≡ get_or w.cells i 0
+  takes_cells : (x : Result Directive Cause) → TestedIn w.storage x → (i : ℕ) → word_changes g w i x ≡ false → get_or (step_by g w x).cells i 0 ≡ get_or w.cells i 0
   unfolding step_by stops
-  takes_cells (Obey d) r i e = obeyed_cells d r i e
-  takes_cells (Jump a) r i e = refl
-  takes_cells (Bad cause) r i e = refl
+  takes_cells (Ok (Obey d)) r i e = obeyed_cells d r i e
+  takes_cells (Ok (Jump a)) r i e = refl
+  takes_cells (Err cause) r i e = refl
 
-  takes_storage : (x : Tested) → TestedIn w.storage x → (i : ℕ) → word_stores g w i x ≡ false
+  takes_storage : (x : Result Directive Cause) → TestedIn w.storage x → (i : ℕ) → word_stores g w i x ≡ false
       → get_or (step_by g w x).storage i 0 ≡ get_or w.storage i 0
   unfolding step_by stops word_stores
-  takes_storage (Obey d) r i e = obeyed_storage d r i e
-  takes_storage (Jump a) r i e = refl
-  takes_storage (Bad cause) r i e = stored-kept w.storage _ i (omega (arith, L.room)) e
+  takes_storage (Ok (Obey d)) r i e = obeyed_storage d r i e
+  takes_storage (Ok (Jump a)) r i e = refl
+  takes_storage (Err cause) r i e = stored-kept w.storage _ i (omega (arith, L.room)) e
 
   in_storage : TestedIn w.storage (next w)
   unfolding next
   in_storage = tested_in w.storage w.held.channel.next w.held.channel.after_tic
 
-  checks_by : (d : Word) (x : Tested) → TestedIn w.storage x → x ≡ Obey d → (row : Row) → (turn_of g w d).ending ≡ Check row
+  checks_by : (d : Word) (x : Result Directive Cause) → TestedIn w.storage x → x ≡ Ok (Obey d) → (row : Row) → (turn_of g w d).ending ≡ Check row
       → (step_by g w x).cells ≡ w.cells
   unfolding step_by
-  checks_by d x r e row f = ap (λ (y : Tested). (step_by g w y).cells) e ∙ obeyed_checks d (subst (TestedIn w.storage) e r) row f
+  checks_by d x r e row f = ap (λ (y : Result Directive Cause). (step_by g w y).cells) e ∙ obeyed_checks d (subst (TestedIn w.storage) e r) row f
 
   pub step_confined : StepConfined g w
   unfolding step changes stores next

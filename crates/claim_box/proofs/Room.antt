@@ -15,16 +15,13 @@ use Rattle.hunt.specs.declared.{Spot.Spot}
 use Rattle.hunt.specs.Hunt.{count_first}
 use Rattle.room.specs.Room.{fits}
 use Rattle.pack.specs.declared.{Shape.Shape}
-use Rattle.held.specs.declared.{Selection.Selection, Position.Position, Orders.Orders}
-use Rattle.held.specs.declared.Selection.TheVariants.{Nothing, On}
-use Rattle.command.specs.declared.{Got.Got, Task.Task, Plan.Plan}
-use Rattle.command.specs.declared.Got.TheVariants.{Sees}
+use Rattle.held.specs.declared.{Position.Position, Orders.Orders}
+use Rattle.command.specs.declared.{Task.Task}
 use Rattle.command.specs.Command.{most_tally, marks_of, licensed, task, tallies, on_record, on_selected, aimed, plan_of, areas_of, gets, Sight, areas_read, sight, fail_turn, new_turn, r0_turn, record_turn, write_turn, act_turn, job_of, has_read, ready_by, plan_reads, ready_turn, rule_turn, command}
 use Rattle.turn.specs.Turn.{with_sense, position_at, Tracks, transfer_of, wants, Turn, report_of, check_turn}
 use Rattle.format.specs.Format.{new_counts}
 use Rattle.table.specs.declared.{Write.Write, Act.Act, Rule.Rule}
 use Rattle.table.specs.Table.{rule_of}
-use Rattle.command.specs.declared.Plan.TheVariants.{Refuses, Works}
 use Rattle.command.proofs.Planned.{is_selected}
 use Rattle.channel.specs.Channel.{bytes_moved}
 use Rattle.claim_box.specs.Confined as Confined
@@ -32,17 +29,18 @@ use Rattle.claim_box.specs.Confined.{bars, has_room, NoRowBefore, RoomKept}
 use Rattle.claim_box.proofs.Acting as Acting
 use Rattle.claim_box.proofs.Acting.{on_selection, apt_write, apt_write_lem, bars_not, Acting, acting_takes, aimed_r0, aimed-selected, obeys_all}
 use Rattle.claim_box.proofs.Commands.{nothing_laid}
+use Rattle.std.specs.Prelude.{None, Some, Ok, Err, Option, Result}
 
 -- a new record is as long with one flag as with another
 same_size : (a b : ℕ) (v : List ℕ) → record_cells (new_counts a v) ≡ record_cells (new_counts b v)
 unfolding new_counts counts_of record_cells key_cells
 same_size a b v = refl
 
-spot_same : (x y : Spot) → On x ≡ On y → x ≡ y
+spot_same : (x y : Spot) → Some x ≡ Some y → x ≡ y
 spot_same x y e = cc
 
 module _ (g : Shape) (t : Tracks) (s : Position) (o : Orders) (code : ℕ) (v : List ℕ) (r : Rule) (w : Write) (spot : Spot)
-    (act : r.act ≡ Act.Write w) (apt : apt_write w r ≡ true) (on : Confined.record_taken w o.selection ≡ On spot)
+    (act : r.act ≡ Act.Write w) (apt : apt_write w r ≡ true) (on : Confined.record_taken w o.selection ≡ Some spot)
     (tight : has_room w (count_first spot) v (t s.head) ≡ false) where
   module _ (k : Task) (n : Counts) (A : Acting t s o r k n) where
     abbrev x : Sight
@@ -55,7 +53,7 @@ module _ (g : Shape) (t : Tracks) (s : Position) (o : Orders) (code : ℕ) (v : 
         second_picked (fits r0_first (record_cells (new_counts flag v))) _ _
         (ap (fits r0_first) (same_size flag (flag_of_r0 (home_flag (t s.head))) v) ∙ e)
 
-    record_tight : o.selection ≡ On spot → Acting.Takes t s o r k n o.selection
+    record_tight : o.selection ≡ Some spot → Acting.Takes t s o r k n o.selection
         → fits (end_by (count_first spot) (counts_at (t s.head) (count_first spot)))
         (needed (new_counts (flag_after (counts_at (t s.head) (count_first spot)).flag) v)) ≡ false
         → record_turn x (end_by k.place n) (flag_after n.flag) ≡ fail_turn x Row.NoRoom
@@ -67,7 +65,7 @@ module _ (g : Shape) (t : Tracks) (s : Position) (o : Orders) (code : ℕ) (v : 
         ∙ (λ i. fits (end_by (count_first (z i)) (counts_at (t s.head) (count_first (z i))))
         (needed (new_counts (flag_after (counts_at (t s.head) (count_first (z i))).flag) v))) ∙ e)
 
-    lays_tight : (u : Write) → apt_write u r ≡ true → Confined.record_taken u o.selection ≡ On spot → has_room u (count_first spot) v (t s.head) ≡ false
+    lays_tight : (u : Write) → apt_write u r ≡ true → Confined.record_taken u o.selection ≡ Some spot → has_room u (count_first spot) v (t s.head) ≡ false
         → write_turn u x ≡ fail_turn x Row.NoRoom
     unfolding write_turn has_room apt_write Confined.record_taken sight
     lays_tight Write.HomeAddress a p e = absurd (false≢true (sym e))
@@ -85,7 +83,7 @@ module _ (g : Shape) (t : Tracks) (s : Position) (o : Orders) (code : ℕ) (v : 
 
   -- ---- where no earlier row holds
 
-  aims_record : (u : Write) → apt_write u r ≡ true → Confined.record_taken u o.selection ≡ On spot → has_room u (count_first spot) v (t s.head) ≡ false
+  aims_record : (u : Write) → apt_write u r ≡ true → Confined.record_taken u o.selection ≡ Some spot → has_room u (count_first spot) v (t s.head) ≡ false
       → aimed r (marks_of t) s o r.aim ≡ on_record r o s.head spot 0
   unfolding has_room apt_write on_selection Confined.record_taken on_selected
   aims_record Write.HomeAddress a p e = absurd (false≢true (sym e))
@@ -93,13 +91,13 @@ module _ (g : Shape) (t : Tracks) (s : Position) (o : Orders) (code : ℕ) (v : 
       aimed_r0 t s o r r.aim a ∙ ap (λ (y : Spot). on_record r o s.head y 0) (spot_same Spot.R0 spot p)
   aims_record Write.CountKeyData a p e =
       aimed-selected t s o r r.aim (first_of (is_selected r.aim) _ a)
-      ∙ ap (λ (y : Selection). on_selected r o s.head y (Refuses Row.WrongBefore)) p
+      ∙ ap (λ (y : Option Spot). on_selected r o s.head y (Err Row.WrongBefore)) p
   aims_record (Write.Update key) a p e = absurd (false≢true (sym e))
 
   abbrev there : Task
-  there = task s.head (count_first spot) (pick r.selects (On spot) Nothing) (pick (tallies r.act) (o.tally + 0) 0)
+  there = task s.head (count_first spot) (pick r.selects (Some spot) None) (pick (tallies r.act) (o.tally + 0) 0)
 
-  aims_there : aimed r (marks_of t) s o r.aim ≡ Works there
+  aims_there : aimed r (marks_of t) s o r.aim ≡ Ok there
   unfolding on_record tallies
   aims_there =
       aims_record w apt on tight
@@ -107,20 +105,20 @@ module _ (g : Shape) (t : Tracks) (s : Position) (o : Orders) (code : ℕ) (v : 
       (ap (λ (a : Act). both (tallies a) (ltb most_tally (o.tally + 0))) act)
 
   module _ (l : licensed r.licence o ≡ true) (m : bars r.bar o.mask ≡ false) (n : Counts)
-      (reads : gets r.names t s.head (count_first spot) ≡ Sees n) where
-    plans_there : plan_of r (marks_of t) s o ≡ Works there
+      (reads : gets r.names t s.head (count_first spot) ≡ Ok n) where
+    plans_there : plan_of r (marks_of t) s o ≡ Ok there
     unfolding plan_of
     plans_there = first_picked (licensed r.licence o) _ _ l ∙ bars_not r.bar o.mask _ m ∙ aims_there
 
     row_shown : rule_turn g t code r s o v ≡ check_turn s o (areas_of r.names t s.head (count_first spot)) Row.NoRoom
     unfolding rule_turn plan_reads ready_by has_read ready_turn fail_turn sight areas_read
     row_shown =
-        ap (λ (p : Plan). ready_turn g t s o v (plan_reads t r p) (ready_by t code r s o p)) plans_there
-        ∙ ap (λ (y : Got). ready_turn g t s o v (areas_of r.names t s.head (count_first spot)) (has_read code r s o there y)) reads
+        ap (λ (p : Result Task Row). ready_turn g t s o v (plan_reads t r p) (ready_by t code r s o p)) plans_there
+        ∙ ap (λ (y : Result Counts Row). ready_turn g t s o v (areas_of r.names t s.head (count_first spot)) (has_read code r s o there y)) reads
         ∙ acts_tight there n (record { licence = l; mask = m; aims = aims_there; here = refl; sees = reads })
 
 module _ (g : Shape) (t : Tracks) (s : Position) (o : Orders) (code : ℕ) (v : List ℕ) (w : Write) (spot : Spot) (act : (rule_of code).act ≡ Act.Write w)
-    (on : Confined.record_taken w o.selection ≡ On spot) (tight : has_room w (count_first spot) v (t s.head) ≡ false) where
+    (on : Confined.record_taken w o.selection ≡ Some spot) (tight : has_room w (count_first spot) v (t s.head) ≡ false) where
   row_is : NoRowBefore t s o code spot
       → command g t s o code v ≡ check_turn s o (areas_of (rule_of code).names t s.head (count_first spot)) Row.NoRoom
   unfolding command

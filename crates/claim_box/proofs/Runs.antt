@@ -10,11 +10,9 @@ use Rattle.table.specs.Table.{is_write, rule_of}
 use Rattle.cells.specs.Cells.{pick, both, track_cells}
 use Rattle.cells.proofs.Marks.{both_never}
 use Rattle.cells.proofs.Tests.{first_of, second_of}
-use Rattle.words.specs.declared.{Tested.Tested}
-use Rattle.words.specs.declared.Tested.TheVariants.{Obey, Jump, Bad}
 use Rattle.pack.specs.declared.{Shape.Shape}
 use Rattle.pack.specs.Pack.{start_of}
-use Rattle.held.specs.declared.{Selection.Selection, Orders.Orders}
+use Rattle.held.specs.declared.{Orders.Orders}
 use Rattle.table.specs.declared.{Act.Act, Rule.Rule}
 use Rattle.command.specs.Command.{licensed}
 use Rattle.channel.specs.Channel.{World}
@@ -24,6 +22,10 @@ use Rattle.chain.proofs.Runs.{run_sizes}
 use Rattle.claim_box.specs.Confined.{among, act_reaches, bars, may_change, word_changes, changes, spares, spares_cell, spares_byte, track_on, writes_on, spares_track, RunConfined}
 use Rattle.claim_box.proofs.Outside.{out_test, apart}
 use Rattle.claim_box.proofs.NextWord.{none_elsewhere, step_confined}
+use Rattle.std.specs.Prelude.{Ok, Err, Option, Result}
+use Rattle.words.specs.declared.Directive.TheVariants.{Obey, Jump}
+use Rattle.hunt.specs.declared.{Spot.Spot}
+use Rattle.words.specs.declared.{Directive.Directive, Cause.Cause}
 
 module _ (g : Shape) where
   -- what every word keeps of which the test does not hold
@@ -40,7 +42,7 @@ module _ (g : Shape) where
 
   -- ---- a track on which no write runs
 
-  no_write : (a : Act) (t : List ℕ) (x : Selection) (i : ℕ) → is_write a ≡ false → act_reaches a t x i ≡ false
+  no_write : (a : Act) (t : List ℕ) (x : Option Spot) (i : ℕ) → is_write a ≡ false → act_reaches a t x i ≡ false
   unfolding is_write act_reaches
   no_write (Act.Control a) t x i e = refl
   no_write (Act.Search h) t x i e = refl
@@ -53,13 +55,13 @@ module _ (g : Shape) where
       ap (λ (b : Bool). both (licensed r.licence o) (both (not (bars r.bar o.mask)) b)) (no_write r.act t o.selection i e)
       ∙ ap (both (licensed r.licence o)) (both_never (not (bars r.bar o.mask))) ∙ both_never (licensed r.licence o)
 
-  word-spares : (w : World) (x : Tested) (i : ℕ) → tested_writes x ≡ false → word_changes g w i x ≡ false
+  word-spares : (w : World) (x : Result Directive Cause) (i : ℕ) → tested_writes x ≡ false → word_changes g w i x ≡ false
   unfolding tested_writes word_changes
-  word-spares w (Obey d) i e =
+  word-spares w (Ok (Obey d)) i e =
       ap (both (among (under g w.held) track_cells i)) (never_may (rule_of d.code) w.held.orders (track_under g w) (i - under g w.held) e)
       ∙ both_never (among (under g w.held) track_cells i)
-  word-spares w (Jump a) i e = refl
-  word-spares w (Bad cause) i e = refl
+  word-spares w (Ok (Jump a)) i e = refl
+  word-spares w (Err cause) i e = refl
 
   off_spares : (w : World) (m i : ℕ) → i < track_cells → eqb m (track_on g w) ≡ false
       → among (under g w.held) track_cells (m * track_cells + i) ≡ false

@@ -16,8 +16,7 @@ use Rattle.cells.proofs.Marks.{both_never}
 use Rattle.cells.proofs.Tests.{second_of, second_picked}
 use Rattle.rows.specs.declared.{Sense.Sense}
 use Rattle.rows.specs.Rows.{sense_of, row_takes}
-use Rattle.words.specs.declared.{Word.Word, Tested.Tested}
-use Rattle.words.specs.declared.Tested.TheVariants.{Obey, Jump, Bad}
+use Rattle.words.specs.declared.{Word.Word, Directive.Directive, Cause.Cause}
 use Rattle.words.specs.Words.{chains, stored, status_for}
 use Rattle.areas.specs.declared.{Part.Part, Area.Area}
 use Rattle.areas.specs.Areas.{row_of}
@@ -36,6 +35,8 @@ use Rattle.claim_track.proofs.Hurts.{Hurt, damaged_hurt, same_hurt, same_area_le
 use Rattle.claim_track.proofs.Struck.{lies, command-spared, command_struck}
 use Rattle.claim_box.proofs.Outside.{apart, same_track}
 use Rattle.claim_box.specs.Demand3.{track, Harmed, next_writes, is_it, reads_it, Alike, data_check, DataChecked}
+use Rattle.std.specs.Prelude.{Ok, Err, Result}
+use Rattle.words.specs.declared.Directive.TheVariants.{Obey, Jump}
 
 -- ---- how the channel ends a Data Check: no byte was moved, and the chain is at its end
 
@@ -112,7 +113,7 @@ module _ (n s : ℕ) (x : Area) (c c' : List ℕ) (harm : Harmed n s x c c') whe
               theirs = still c';
             }
 
-        obeyed_broken : next (world h st c') ≡ Obey d → any it (turn_of g (world h st c) d).reads ≡ true → DataChecked x (world h st c') (obeyed g (world h st c') d)
+        obeyed_broken : next (world h st c') ≡ Ok (Obey d) → any it (turn_of g (world h st c) d).reads ≡ true → DataChecked x (world h st c') (obeyed g (world h st c') d)
         unfolding obeyed settled turn_of is_it
         obeyed_broken u e =
             let r = command_struck it _ _ hurts g h.position h.orders d.code (fetched st d) sel e in
@@ -126,18 +127,18 @@ module _ (n s : ℕ) (x : Area) (c c' : List ℕ) (harm : Harmed n s x c c') whe
               cells = still c';
             }
 
-      takes_kept : (y : Tested) → tested_writes y ≡ false → any it (tested_reads g (world h st c) y) ≡ false → Alike c c' (step_by g (world h st c) y) (step_by g (world h st c') y)
+      takes_kept : (y : Result Directive Cause) → tested_writes y ≡ false → any it (tested_reads g (world h st c) y) ≡ false → Alike c c' (step_by g (world h st c) y) (step_by g (world h st c') y)
       unfolding step_by tested_writes tested_reads stops
-      takes_kept (Obey d) q e = obeyed-kept d q e
-      takes_kept (Jump a) q e = record { held = refl; storage = refl; mine = refl; theirs = refl }
-      takes_kept (Bad cause) q e = record { held = refl; storage = refl; mine = refl; theirs = refl }
+      takes_kept (Ok (Obey d)) q e = obeyed-kept d q e
+      takes_kept (Ok (Jump a)) q e = record { held = refl; storage = refl; mine = refl; theirs = refl }
+      takes_kept (Err cause) q e = record { held = refl; storage = refl; mine = refl; theirs = refl }
 
-      takes_broken : (y : Tested) → next (world h st c') ≡ y → tested_writes y ≡ false → any it (tested_reads g (world h st c) y) ≡ true
+      takes_broken : (y : Result Directive Cause) → next (world h st c') ≡ y → tested_writes y ≡ false → any it (tested_reads g (world h st c) y) ≡ true
           → DataChecked x (world h st c') (step_by g (world h st c') y)
       unfolding step_by tested_writes tested_reads any
-      takes_broken (Obey d) u q e = obeyed_broken d q u e
-      takes_broken (Jump a) u q e = absurd (false≢true e)
-      takes_broken (Bad cause) u q e = absurd (false≢true e)
+      takes_broken (Ok (Obey d)) u q e = obeyed_broken d q u e
+      takes_broken (Ok (Jump a)) u q e = absurd (false≢true e)
+      takes_broken (Err cause) u q e = absurd (false≢true e)
 
   -- ---- a word from two worlds that are alike
 

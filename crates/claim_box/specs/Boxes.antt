@@ -1,8 +1,8 @@
 -- Document 01, "How tightly it is pinned"; REFERENCE 1.4: what a box must do, and the six boxes that are shut out, each as a function of the model.
-use Rattle.std.specs.Prelude.{ℕ, zero, suc, ◌≤◌, ◌≡◌, Bool, true, List, [], ◌∷◌, ltb, leb}
+use Rattle.std.specs.Prelude.{ℕ, zero, suc, ◌≤◌, ◌≡◌, Bool, true, List, [], ◌∷◌, ltb, leb, Ok, Err, Result}
 use Rattle.cells.specs.Cells.{pick, both}
 use Rattle.rows.specs.declared.{Row.Row}
-use Rattle.words.specs.declared.{Word.Word, Status.Status, Tested.Tested}
+use Rattle.words.specs.declared.{Word.Word, Status.Status, Directive.Directive, Cause.Cause}
 use Rattle.words.specs.Words.{stored, status_for}
 use Rattle.pack.specs.declared.{Shape.Shape}
 use Rattle.held.specs.declared.{Channel.Channel}
@@ -83,10 +83,10 @@ checks_read g w d (Act.Search h) = obeyed g w d
 checks_read g w d (Act.Read c) = settled g w d (check_turn w.held.position w.held.orders [] Row.Unreadable)
 checks_read g w d (Act.Write a) = obeyed g w d
 
-unfoldable pub step_checking : Shape → World → Tested → World
-step_checking g w (Tested.Obey d) = checks_read g w d (rule_of d.code).act
-step_checking g w (Tested.Jump a) = step_by g w (Tested.Jump a)
-step_checking g w (Tested.Bad cause) = step_by g w (Tested.Bad cause)
+unfoldable pub step_checking : Shape → World → Result Directive Cause → World
+step_checking g w (Ok (Directive.Obey d)) = checks_read g w d (rule_of d.code).act
+step_checking g w (Ok (Directive.Jump a)) = step_by g w (Ok (Directive.Jump a))
+step_checking g w (Err cause) = step_by g w (Err cause)
 
 unfoldable pub data_checks_reads : Box
 data_checks_reads = stepped_by (λ g w. step_checking g w (next w))
@@ -119,10 +119,10 @@ unfoldable pub settled_inventing : (Word → ℕ) → Shape → World → Word �
 settled_inventing left g w d t =
     world (settled g w d t).held (invented_after left w.held.channel d (report_of t) (placed w.storage d (given t.moves))) (settled g w d t).cells
 
-unfoldable pub step_inventing : (Word → ℕ) → Shape → World → Tested → World
-step_inventing left g w (Tested.Obey d) = settled_inventing left g w d (turn_of g w d)
-step_inventing left g w (Tested.Jump a) = step_by g w (Tested.Jump a)
-step_inventing left g w (Tested.Bad cause) = step_by g w (Tested.Bad cause)
+unfoldable pub step_inventing : (Word → ℕ) → Shape → World → Result Directive Cause → World
+step_inventing left g w (Ok (Directive.Obey d)) = settled_inventing left g w d (turn_of g w d)
+step_inventing left g w (Ok (Directive.Jump a)) = step_by g w (Ok (Directive.Jump a))
+step_inventing left g w (Err cause) = step_by g w (Err cause)
 
 unfoldable pub invents_count : (Word → ℕ) → Box
 invents_count left = stepped_by (λ g w. step_inventing left g w (next w))

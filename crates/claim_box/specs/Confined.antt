@@ -3,11 +3,11 @@
 -- it; nothing changes without mask and licence; a command that ends in Unit Check changes no cell. Storage changes only where a read or Sense put its bytes
 -- and in bytes 64 to 71 by a stored status word (68 and 69 by answer 5)." What may change is said by the command's row of the table and by what is held and
 -- recorded, never by what a turn lays or gives; of the turn only how many bytes moved is taken, and whether the chain ends.
-use Rattle.std.specs.Prelude.{ℕ, zero, suc, ◌+◌, ◌-◌, ◌*◌, ◌<◌, ◌≤◌, min, ◌≡◌, Bool, true, false, not, List, [], ◌∷◌, ◌⊎◌, length, get_or, ltb, leb, eqb}
+use Rattle.std.specs.Prelude.{ℕ, zero, suc, ◌+◌, ◌-◌, ◌*◌, ◌<◌, ◌≤◌, min, ◌≡◌, Bool, true, false, not, List, [], ◌∷◌, ◌⊎◌, length, get_or, ltb, leb, eqb, Ok, Err, None, Some, Option, Result}
 use Rattle.cells.specs.Cells.{pick, both, either, track_cells, gap}
 use Rattle.rows.specs.declared.{Row.Row}
 use Rattle.rows.specs.Rows.{sense}
-use Rattle.words.specs.declared.{Word.Word, Tested.Tested}
+use Rattle.words.specs.declared.{Word.Word, Directive.Directive, Cause.Cause}
 use Rattle.words.specs.Words.{word_bytes, status_at}
 use Rattle.house_check.specs.Check.{check_bytes}
 use Rattle.areas.specs.declared.{Area.Area, Counts.Counts}
@@ -17,8 +17,7 @@ use Rattle.hunt.specs.Hunt.{WholeTrack, count_first}
 use Rattle.room.specs.Room.{fits}
 use Rattle.pack.specs.declared.{Head.Head, Shape.Shape}
 use Rattle.pack.specs.Pack.{track_no}
-use Rattle.held.specs.declared.{Selection.Selection, Position.Position, Orders.Orders}
-use Rattle.command.specs.declared.{Got.Got}
+use Rattle.held.specs.declared.{Position.Position, Orders.Orders}
 use Rattle.turn.specs.declared.{Ending.Ending}
 use Rattle.format.specs.Format.{new_counts}
 use Rattle.table.specs.declared.{Bar.Bar, Write.Write, Act.Act, Rule.Rule}
@@ -57,17 +56,17 @@ reaches Write.CountKeyData c n i = leb (end_by c n) i
 reaches (Write.Update key) c n i = either (both key (in_key c n i)) (in_data c n i)
 
 -- the record that it takes: R0 for the two that go to the index, else the one selected
-unfoldable pub record_taken : Write → Selection → Selection
-record_taken Write.HomeAddress x = Selection.On Spot.R0
-record_taken Write.R0 x = Selection.On Spot.R0
+unfoldable pub record_taken : Write → Option Spot → Option Spot
+record_taken Write.HomeAddress x = Some Spot.R0
+record_taken Write.R0 x = Some Spot.R0
 record_taken Write.CountKeyData x = x
 record_taken (Write.Update key) x = x
 
-unfoldable pub reaches_from : Write → List ℕ → Selection → ℕ → Bool
-reaches_from k t Selection.Nothing i = false
-reaches_from k t (Selection.On spot) i = reaches k (count_first spot) (counts_at t (count_first spot)) i
+unfoldable pub reaches_from : Write → List ℕ → Option Spot → ℕ → Bool
+reaches_from k t None i = false
+reaches_from k t (Some spot) i = reaches k (count_first spot) (counts_at t (count_first spot)) i
 
-unfoldable pub act_reaches : Act → List ℕ → Selection → ℕ → Bool
+unfoldable pub act_reaches : Act → List ℕ → Option Spot → ℕ → Bool
 act_reaches (Act.Control a) t x i = false
 act_reaches (Act.Search h) t x i = false
 act_reaches (Act.Read counted) t x i = false
@@ -120,11 +119,11 @@ pub record CommandConfined (g : Shape) (t : Tracks) (s : Position) (o : Orders) 
 -- ---- the next word
 
 -- cells of the pack
-unfoldable pub word_changes : Shape → World → ℕ → Tested → Bool
-word_changes g w i (Tested.Obey d) =
+unfoldable pub word_changes : Shape → World → ℕ → Result Directive Cause → Bool
+word_changes g w i (Ok (Directive.Obey d)) =
     both (among (under g w.held) track_cells i) (may_change (rule_of d.code) w.held.orders (track_under g w) (i - under g w.held))
-word_changes g w i (Tested.Jump a) = false
-word_changes g w i (Tested.Bad cause) = false
+word_changes g w i (Ok (Directive.Jump a)) = false
+word_changes g w i (Err cause) = false
 
 unfoldable pub changes : Shape → World → ℕ → Bool
 changes g w i = word_changes g w i (next w)
@@ -133,11 +132,11 @@ changes g w i = word_changes g w i (next w)
 abbrev pub in_status : ℕ → Bool
 in_status i = among status_at word_bytes i
 
-unfoldable pub word_stores : Shape → World → ℕ → Tested → Bool
-word_stores g w i (Tested.Obey d) =
+unfoldable pub word_stores : Shape → World → ℕ → Result Directive Cause → Bool
+word_stores g w i (Ok (Directive.Obey d)) =
     either (may_store (rule_of d.code).act d (bytes_moved d (report_of (turn_of g w d))) i) (both (not (goes_on d (report_of (turn_of g w d)))) (in_status i))
-word_stores g w i (Tested.Jump a) = false
-word_stores g w i (Tested.Bad cause) = in_status i
+word_stores g w i (Ok (Directive.Jump a)) = false
+word_stores g w i (Err cause) = in_status i
 
 unfoldable pub stores : Shape → World → ℕ → Bool
 stores g w i = word_stores g w i (next w)
@@ -146,7 +145,7 @@ pub record StepConfined (g : Shape) (w : World) : Type 0 where
   pub cells : (i : ℕ) → changes g w i ≡ false → get_or (step g w).cells i gap ≡ get_or w.cells i gap
   -- "cells outside the selected track never change"
   pub elsewhere : (i : ℕ) → (i < under g w.held) ⊎ (under g w.held + track_cells ≤ i) → get_or (step g w).cells i gap ≡ get_or w.cells i gap
-  pub checks : (d : Word) → next w ≡ Tested.Obey d → (row : Row) → (turn_of g w d).ending ≡ Ending.Check row → (step g w).cells ≡ w.cells
+  pub checks : (d : Word) → next w ≡ Ok (Directive.Obey d) → (row : Row) → (turn_of g w d).ending ≡ Ending.Check row → (step g w).cells ≡ w.cells
   pub long : length (step g w).cells ≡ length w.cells
   pub storage_long : length (step g w).storage ≡ length w.storage
   -- ".. and in bytes 64 to 71 by a stored status word"
@@ -213,7 +212,7 @@ pub record NoRowBefore (t : Tracks) (s : Position) (o : Orders) (code : ℕ) (sp
   pub licence : licensed (rule_of code).licence o ≡ true
   pub mask : bars (rule_of code).bar o.mask ≡ false
   pub counts : Counts
-  pub reads : gets (rule_of code).names t s.head (count_first spot) ≡ Got.Sees counts
+  pub reads : gets (rule_of code).names t s.head (count_first spot) ≡ Ok counts
 
 -- a write that has no room
 pub record RoomKept (g : Shape) (t : Tracks) (s : Position) (o : Orders) (code : ℕ) (v : List ℕ) (spot : Spot) : Type 0 where
@@ -231,4 +230,4 @@ pub record Confined (g : Shape) : Type 0 where
   pub allowance : (n : ℕ) (w : World) → Legal g w → RunConfined g n w
   pub call : (n : ℕ) (w : World) → CallConfined g n w
   pub room : (t : Tracks) (s : Position) (o : Orders) (code : ℕ) (v : List ℕ) (k : Write) (spot : Spot) → (rule_of code).act ≡ Act.Write k
-      → record_taken k o.selection ≡ Selection.On spot → has_room k (count_first spot) v (t s.head) ≡ false → RoomKept g t s o code v spot
+      → record_taken k o.selection ≡ Some spot → has_room k (count_first spot) v (t s.head) ≡ false → RoomKept g t s o code v spot

@@ -1,11 +1,11 @@
 -- Demand 3 (REFERENCE 1.3): take a soundly written track and change one or more recorded bits in one area of it, check bytes included, all within 16
 -- successive bits, markers untouched. Run the same chain, without writes, from the same state on both, all else alike. Until a command reads that area all
 -- agrees; the first command that reads it ends with Data Check.
-use Rattle.std.specs.Prelude.{ℕ, zero, suc, ◌+◌, ◌*◌, ◌<◌, ◌≤◌, ◌≡◌, Bool, true, false, not, List, [], ◌∷◌, ◌⊎◌, length, get_or, eqb}
+use Rattle.std.specs.Prelude.{ℕ, zero, suc, ◌+◌, ◌*◌, ◌<◌, ◌≤◌, ◌≡◌, Bool, true, false, not, List, [], ◌∷◌, ◌⊎◌, length, get_or, eqb, Ok}
 use Rattle.cells.specs.Cells.{pick, both, track_cells, gap}
 use Rattle.rows.specs.declared.{Sense.Sense}
 use Rattle.rows.specs.Rows.{sense}
-use Rattle.words.specs.declared.{Word.Word, Tested.Tested}
+use Rattle.words.specs.declared.{Word.Word, Directive.Directive}
 use Rattle.words.specs.Words.{stored, status_for}
 use Rattle.areas.specs.declared.{Part.Part, Area.Area}
 use Rattle.pack.specs.declared.{Cylinder.Cylinder, Shape.Shape}
@@ -17,8 +17,8 @@ use Rattle.channel.specs.Channel.{World, world}
 use Rattle.chain.specs.Step.{next, step, run, word_reads, tested_writes}
 use Rattle.sound.specs.Sound.{Sound}
 use Rattle.claim_track.specs.Damage.{Own, Damaged, any, same_area}
-use Rattle.host.specs.declared.{Answer.Answer, Guarded.Guarded}
-use Rattle.host.specs.Host.{Hears, guard_of, if_passes, starts, goes}
+use Rattle.host.specs.declared.{Answer.Answer}
+use Rattle.host.specs.Host.{Hears, guard_of, if_passes, starts, goes, no_refusal}
 
 -- ---- two packs, alike but for one area of one track
 
@@ -112,14 +112,14 @@ data_check Part.Data = sense 0x08 0x00
 -- Unit Check, so that no search is satisfied, and the word's whole count left, so that no byte was moved; no cell is changed
 pub record DataChecked (x : Area) (w v : World) : Type 0 where
   pub word : Word
-  pub given : next w ≡ Tested.Obey word
+  pub given : next w ≡ Ok (Directive.Obey word)
   pub held : v.held ≡ rested (with_sense w.held.position (data_check x.part))
   pub storage : v.storage ≡ stored w.storage (status_for w.held.channel.key w.held.channel.next 0x0E 0x00 word.count)
   pub cells : v.cells ≡ w.cells
 
 -- in a go from w, word k + 1 is the first that reads the area, and no word up to it is a write
 pub record FirstReads (g : Shape) (n : ℕ) (x : Area) (allowance k : ℕ) (w : World) : Type 0 where
-  pub passes : guard_of g w ≡ Guarded.Passes
+  pub passes : guard_of g w ≡ no_refusal
   pub within : k < allowance
   pub before : spared g n x k w ≡ true
   pub going : (run g k w).held.channel.going ≡ true

@@ -1,5 +1,5 @@
 -- Document 01, "Figures to check"; REFERENCE 11.1, 11.3: the starred figures, in one table.
-use Rattle.std.specs.Prelude.{ℕ, suc, ◌/◌, ◌%◌, ◌≡◌, true, false, List, [], ◌∷◌, ◌++◌, pos, negsuc, length, replicate}
+use Rattle.std.specs.Prelude.{ℕ, suc, ◌/◌, ◌%◌, ◌≡◌, true, false, List, [], ◌∷◌, ◌++◌, pos, negsuc, length, replicate, Ok, Err}
 use Rattle.cells.specs.Cells.{number, part, overlay, track_cells}
 use Rattle.house_check.specs.Check.{cells_with_check}
 use Rattle.areas.specs.declared.{Counts.Counts}
@@ -9,7 +9,7 @@ use Rattle.table.specs.Table.{is_mask}
 use Rattle.rows.specs.declared.{Row.Row}
 use Rattle.rows.specs.Rows.{sense}
 use Rattle.words.specs.Words.{address_word, status_at}
-use Rattle.pack.specs.declared.{Shape.Shape, Sought.Sought}
+use Rattle.pack.specs.declared.{Shape.Shape}
 use Rattle.pack.specs.Pack.{cylinder, head, seek_to, seek_head}
 use Rattle.compare.specs.declared.{Compared.Compared}
 use Rattle.compare.specs.Compare.{compared}
@@ -142,20 +142,20 @@ pub record Figures : Type 0 where
   pub five_20_status : status_of (mask_word 0x40 0x20) ≡ 0x00 ∷ 0x00 ∷ 0x01 ∷ 0x08 ∷ 0x0E ∷ 0x00 ∷ 0x00 ∷ 0x00 ∷ []
   pub five_20_sense : (position_left (mask_word 0x40 0x20)).sense ≡ sense 0x80 0x00
   -- 6. on a full pack cylinder 202, head 9 accepted
-  pub six : seek_to full_pack 0 (cylinder 202) (head 9) ≡ Sought.To (cylinder 202) (head 9)
+  pub six : seek_to full_pack 0 (cylinder 202) (head 9) ≡ Ok (cylinder 202, head 9)
   pub six_going : OnFullPack (λ cells. (seek_word cells 202 9).answer ≡ Answer.AllowanceUsed)
   pub six_position : OnFullPack (λ cells. position_left (seek_word cells 202 9) ≡ position_on 202 9 0 0 0)
-  pub six_head : seek_head full_pack (cylinder 202) (head 9) ≡ Sought.To (cylinder 202) (head 9)
+  pub six_head : seek_head full_pack (cylinder 202) (head 9) ≡ Ok (cylinder 202, head 9)
   -- 7. 203 or head 10 not
-  pub seven_cylinder : seek_to full_pack 0 (cylinder 203) (head 9) ≡ Sought.Fails Row.BadSeek
+  pub seven_cylinder : seek_to full_pack 0 (cylinder 203) (head 9) ≡ Err Row.BadSeek
   pub seven_cylinder_end : OnFullPack (λ cells. (seek_word cells 203 9).answer ≡ Answer.ChainEnded)
   pub seven_cylinder_status : OnFullPack (λ cells. status_of (seek_word cells 203 9) ≡ 0x00 ∷ 0x00 ∷ 0x01 ∷ 0x08 ∷ 0x0E ∷ 0x00 ∷ 0x00 ∷ 0x00 ∷ [])
   pub seven_cylinder_position : OnFullPack (λ cells. position_left (seek_word cells 203 9) ≡ position_on 100 5 7 0x81 0x00)
-  pub seven_head : seek_to full_pack 0 (cylinder 202) (head 10) ≡ Sought.Fails Row.BadSeek
+  pub seven_head : seek_to full_pack 0 (cylinder 202) (head 10) ≡ Err Row.BadSeek
   pub seven_head_end : OnFullPack (λ cells. (seek_word cells 202 10).answer ≡ Answer.ChainEnded)
   pub seven_head_status : OnFullPack (λ cells. status_of (seek_word cells 202 10) ≡ 0x00 ∷ 0x00 ∷ 0x01 ∷ 0x08 ∷ 0x0E ∷ 0x00 ∷ 0x00 ∷ 0x00 ∷ [])
   pub seven_head_position : OnFullPack (λ cells. position_left (seek_word cells 202 10) ≡ position_on 100 5 7 0x81 0x00)
-  pub seven_head_only : seek_head full_pack (cylinder 202) (head 10) ≡ Sought.Fails Row.BadSeek
+  pub seven_head_only : seek_head full_pack (cylinder 202) (head 10) ≡ Err Row.BadSeek
   -- 8. ID 0000000002 on track against 0000000001: high, not equal
   pub eight : compared (number (0 ∷ 0 ∷ 0 ∷ 0 ∷ 2 ∷ [])) (number (0 ∷ 0 ∷ 0 ∷ 0 ∷ 1 ∷ [])) ≡ Compared.High
   -- at the level of the box: satisfied is the word 16 on, 272; not satisfied the word 8 on, 264

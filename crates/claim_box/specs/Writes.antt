@@ -1,13 +1,13 @@
 -- Document 01, "Commands"; REFERENCE 5.7, 6.2: what each write does, what it may follow and which mask bars it, by the codes alone, for every command
 -- before and every mask. The table's columns are values with names; a wrong act, licence or bar in a write's row, in model and code alike, is refused here.
-use Rattle.std.specs.Prelude.{ℕ, ◌≡◌, Bool, true, false, List, [], ◌∷◌, get_or, eqb}
+use Rattle.std.specs.Prelude.{ℕ, ◌≡◌, Bool, true, false, List, [], ◌∷◌, get_or, eqb, Err, Result}
 use Rattle.cells.specs.Cells.{pick, both, either}
 use Rattle.rows.specs.declared.{Row.Row}
 use Rattle.held.specs.declared.{Orders.Orders}
 use Rattle.table.specs.declared.{Act.Act, Write.Write}
 use Rattle.table.specs.Table.{rule_of, write_bits}
-use Rattle.command.specs.declared.{Plan.Plan}
 use Rattle.command.specs.Command.{licensed, unless_barred}
+use Rattle.command.specs.declared.{Task.Task}
 
 -- ---- what may come before, by its code and whether its search was equal over the whole field
 
@@ -39,7 +39,7 @@ barred_at01 = false ∷ true ∷ false ∷ false ∷ []
 pub record Needs (code : ℕ) (write : Write) (follows : ℕ → Bool → Bool) (barred : List Bool) : Type 0 where
   pub act : (rule_of code).act ≡ Act.Write write
   pub licence : (o : Orders) → licensed (rule_of code).licence o ≡ follows o.before o.whole
-  pub mask : (m : ℕ) (p : Plan) → unless_barred (rule_of code).bar m p ≡ pick (get_or barred (write_bits m) false) (Plan.Refuses Row.WriteBarred) p
+  pub mask : (m : ℕ) (p : Result Task Row) → unless_barred (rule_of code).bar m p ≡ pick (get_or barred (write_bits m) false) (Err Row.WriteBarred) p
 
 pub record WritesNeed : Type 0 where
   -- Write HA needs mask 11

@@ -11,8 +11,7 @@ use Rattle.cells.proofs.Tests.{first_of, second_of}
 use Rattle.words.specs.Words.{tested, stored, status_for}
 use Rattle.areas.specs.declared.{Area.Area}
 use Rattle.pack.specs.declared.{Shape.Shape}
-use Rattle.held.specs.declared.{Held.Held, Kept.Kept}
-use Rattle.held.specs.declared.Kept.TheVariants.{Holds, Wrong}
+use Rattle.held.specs.declared.{Held.Held}
 use Rattle.held.specs.Held.{encoded, kept, rested}
 use Rattle.held.proofs.Inverse.{kept-encoded, length-encoded, kept_in_range}
 use Rattle.channel.specs.Channel.{World, world}
@@ -36,6 +35,7 @@ use Rattle.claim_sound.proofs.Soundness as Lasting
 use Rattle.claim_sound.proofs.Bytes.{under-bytes}
 use Rattle.claim_host.specs.Linked.{link, links, linked_to, if_held, world_by, if_runs, if_run, if_all_run, used, LinkCut, LinkConfined, LinkAgrees, AllLinksAgree, none, more, spared_links, LinkFirst, LinkEnds, with_cells, LinkDemand3, Deed, calls, brings, deed, deeds, LentBytes, brought_bytes, known_deed, known_deeds, home_spared, homes_spared, Linked}
 use Rattle.claim_host.proofs.Says.{by_kept, refused, Says, link_holds, link_wrong, link_says, left_says, left_wrong}
+use Rattle.std.specs.Prelude.{Some, None, Option}
 
 -- ---- answers by their numbers
 
@@ -54,7 +54,7 @@ module _ (g : Shape) where
   -- ---- cutting
 
   module _ (a b : ℕ) (x : Call) where
-    module _ (h : Held) (e : kept x.held ≡ Holds h) where
+    module _ (h : Held) (e : kept x.held ≡ Some h) where
       abbrev w : World
       w = world_by x h
 
@@ -89,12 +89,12 @@ module _ (g : Shape) where
     C h = (all_confined g).call n (world_by x h)
 
     -- a test of the words that run, by what the bytes say
-    runs_by : (f : World → Bool) (h : Held) → kept x.held ≡ Holds h → if_runs g x f ≡ true → if_passes (guard_of g (world_by x h)) (f (world_by x h)) ≡ true
+    runs_by : (f : World → Bool) (h : Held) → kept x.held ≡ Some h → if_runs g x f ≡ true → if_passes (guard_of g (world_by x h)) (f (world_by x h)) ≡ true
     unfolding if_runs if_held
-    runs_by f h e q = sym (ap (λ (k : Kept). if_held k (λ (y : Held). if_passes (guard_of g (world_by x y)) (f (world_by x y))) true) e) ∙ q
+    runs_by f h e q = sym (ap (λ (k : Option Held). if_held k (λ (y : Held). if_passes (guard_of g (world_by x y)) (f (world_by x y))) true) e) ∙ q
 
     -- what holds of the call: by the model's, or of what was lent
-    of_call : (k : HostCall) (P : Call → Type 0) → ((h : Held) → kept x.held ≡ Holds h → P (call_of (hear g k (world_by x h)))) → P (refused g x) → P (link g k x)
+    of_call : (k : HostCall) (P : Call → Type 0) → ((h : Held) → kept x.held ≡ Some h → P (call_of (hear g k (world_by x h)))) → P (refused g x) → P (link g k x)
     of_call k P f r = by_kept x.held _ (λ h e. subst P (sym (link_holds g k x h e)) (f h e)) (λ e. subst P (sym (link_wrong g k x e)) r)
 
     call_long : (k : HostCall) (h : Held) → length (hear g k (world_by x h)).left.cells ≡ length x.cells
@@ -145,7 +145,7 @@ module _ (g : Shape) where
     unfolding if_run if_runs if_held
     ran_says start x w s = refl
     ran_says (go n) x w s =
-        ap (λ (k : Kept). if_held k (λ (h : Held). if_passes (guard_of g (world_by x h)) (f n (world_by x h))) true) s.held
+        ap (λ (k : Option Held). if_held k (λ (h : Held). if_passes (guard_of g (world_by x h)) (f n (world_by x h))) true) s.held
         ∙ ap (λ (v : World). if_passes (guard_of g v) (f n v)) s.same
 
     all_says : (ks : List HostCall) (x : Call) (w : World) → Says x w → if_all_run g f ks x ≡ all_ran ks w
@@ -164,10 +164,10 @@ module _ (g : Shape) where
 
   -- ---- demand 3
 
-  holds_not : (h : Held) → Holds h ≡ Wrong → ⊥
+  holds_not : (h : Held) → Some h ≡ None → ⊥
   holds_not h e = let z : ◌≡◌ {A = ℕ} 0 1 = cc in omega arith
 
-  held_is : (h k : Held) → Holds h ≡ Holds k → h ≡ k
+  held_is : (h k : Held) → Some h ≡ Some k → h ≡ k
   held_is h k e = cc
 
   module _ (n s : ℕ) (x : Area) (c c' : List ℕ) (harm : Harmed n s x c c') where
@@ -196,7 +196,7 @@ module _ (g : Shape) where
         (both_agree ks _ _ _ _ (left_says g (k ∷ []) y w p) (left_says g (k ∷ []) y' v q) rest)
 
     -- both are refused alike
-    wrong_agree : (ks : List HostCall) (v st : List ℕ) (a a' : ℕ) → kept v ≡ Wrong → AllLinksAgree c c' (links g ks (call a v st c)) (links g ks (call a' v st c'))
+    wrong_agree : (ks : List HostCall) (v st : List ℕ) (a a' : ℕ) → kept v ≡ None → AllLinksAgree c c' (links g ks (call a v st c)) (links g ks (call a' v st c'))
     unfolding links
     wrong_agree [] v st a a' e = none
     wrong_agree (k ∷ ks) v st a a' e =
@@ -206,7 +206,7 @@ module _ (g : Shape) where
         (wrong_agree ks v st _ _ e)))
 
     module _ (a : ℕ) (v st : List ℕ) (ks : List HostCall) (q : spared_links g n x ks (call a v st c) ≡ true) where
-      spared_by : (h : Held) → kept v ≡ Holds h → spared_calls g n x ks (world h st c) ≡ true
+      spared_by : (h : Held) → kept v ≡ Some h → spared_calls g n x ks (world h st c) ≡ true
       unfolding spared_links
       spared_by h e =
           sym (spared_are n x ks (world h st c)) ∙ sym (all_says (spared g n x) ks (call a v st c) (world h st c) (record { held = e; same = refl })) ∙ q
@@ -244,7 +244,7 @@ module _ (g : Shape) where
               cells = E.checked.cells ∙ U.theirs ∙ sym (ap (λ (y : World). y.cells) S.same);
             })
 
-        held_ends : (h : Held) → kept v ≡ Holds h → LinkEnds x (run g k (world_by lent f.said)) lent' (link g (go allowance) lent')
+        held_ends : (h : Held) → kept v ≡ Some h → LinkEnds x (run g k (world_by lent f.said)) lent' (link g (go allowance) lent')
         held_ends h e =
             let S = left_says g ks (call a v st c) (world h st c) (record { held = e; same = refl }) in
             let S' = left_says g ks (call a v st c') (world h st c') (record { held = e; same = refl }) in
@@ -278,7 +278,7 @@ module _ (g : Shape) where
   -- as far as it is asked of what is lent: storage is bytes, and so is sense, if the bytes say a held state
   record Bytes (x : Call) : Type 0 where
     storage : all_under 256 x.storage ≡ true
-    said : (h : Held) → kept x.held ≡ Holds h → InBytes (world_by x h)
+    said : (h : Held) → kept x.held ≡ Some h → InBytes (world_by x h)
 
   lent-bytes : (x : Call) → LentBytes x → Bytes x
   lent-bytes x b = record {
@@ -315,11 +315,11 @@ module _ (g : Shape) where
         by_kept x.held _
         (λ h e.
         subst (λ (z : Call). Known m z.cells (if_held (kept x.held) f y)) (sym (link_holds g k x h e))
-        (subst (λ (z : Kept). Known m (hear g k (world_by x h)).left.cells (if_held z f y)) (sym e)
+        (subst (λ (z : Option Held). Known m (hear g k (world_by x h)).left.cells (if_held z f y)) (sym e)
         ((soundness_lasts g).calls m (k ∷ []) (world_by x h) (b.said h e) y S)))
         (λ e.
         subst (λ (z : Call). Known m z.cells (if_held (kept x.held) f y)) (sym (link_wrong g k x e))
-        (subst (λ (z : Kept). Known m x.cells (if_held z f y)) (sym e) S))
+        (subst (λ (z : Option Held). Known m x.cells (if_held z f y)) (sym e) S))
 
   -- what is brought
   module _ (v s : List ℕ) (ds : List Deed) (q : brought_bytes (brings v s ∷ ds) ≡ true) where
@@ -355,9 +355,9 @@ module _ (g : Shape) where
       let r : if_held (kept x.held) (λ (h : Held). home_kept g k (world_by x h)) true ≡ true = q in
       by_kept x.held _
       (λ h e.
-      ap (λ (z : Kept). if_held z f true) e
-      ∙ Lasting.call_keeps g m k (world_by x h) (sym (ap (λ (z : Kept). if_held z (λ (i : Held). home_kept g k (world_by x i)) true) e) ∙ r))
-      (λ e. ap (λ (z : Kept). if_held z f true) e)
+      ap (λ (z : Option Held). if_held z f true) e
+      ∙ Lasting.call_keeps g m k (world_by x h) (sym (ap (λ (z : Option Held). if_held z (λ (i : Held). home_kept g k (world_by x i)) true) e) ∙ r))
+      (λ e. ap (λ (z : Option Held). if_held z f true) e)
   deed_keeps m (brings v s) x q = refl
 
   deeds_keep : (m : ℕ) (ds : List Deed) (x : Call) → homes_spared g ds x ≡ true → known_deeds g m ds x true ≡ true

@@ -1,13 +1,13 @@
 -- What a host links (REFERENCE 10.2): start and go over the 64 bytes that it keeps, lent storage and lent cells (`box_export:Calls`, the contracts of
 -- `poplar_start` and `poplar_go`). What is claimed of `starts` and `goes` is said here of these calls: an allowance may be cut in parts (demand 1), what may
 -- change (demand 2), damage (demand 3), and that soundness lasts. Bytes that encode no held state are among what a host may lend: then nothing runs.
-use Rattle.std.specs.Prelude.{ℕ, ◌+◌, ◌*◌, ◌<◌, ◌≡◌, Bool, true, false, List, [], ◌∷◌, length, get_or}
+use Rattle.std.specs.Prelude.{ℕ, ◌+◌, ◌*◌, ◌<◌, ◌≡◌, Bool, true, false, List, [], ◌∷◌, length, get_or, Ok, Some, None, Option}
 use Rattle.cells.specs.Cells.{both, track_cells, gap}
-use Rattle.words.specs.declared.{Word.Word, Tested.Tested}
+use Rattle.words.specs.declared.{Word.Word, Directive.Directive}
 use Rattle.words.specs.Words.{stored, status_for}
 use Rattle.areas.specs.declared.{Area.Area}
 use Rattle.pack.specs.declared.{Shape.Shape}
-use Rattle.held.specs.declared.{Held.Held, Kept.Kept}
+use Rattle.held.specs.declared.{Held.Held}
 use Rattle.held.specs.Held.{encoded, kept, rested}
 use Rattle.turn.specs.Turn.{with_sense}
 use Rattle.channel.specs.Channel.{World, world}
@@ -37,9 +37,9 @@ linked_to g [] x = x
 linked_to g (k ∷ ks) x = linked_to g ks (link g k x)
 
 -- by the held state that the bytes encode; if they encode none, nothing runs, and it is b
-unfoldable pub if_held : Kept → (Held → Bool) → Bool → Bool
-if_held (Kept.Holds h) f b = f h
-if_held Kept.Wrong f b = b
+unfoldable pub if_held : Option Held → (Held → Bool) → Bool → Bool
+if_held (Some h) f b = f h
+if_held None f b = b
 
 -- with what the bytes say, what is lent is a world
 abbrev pub world_by : Call → Held → World
@@ -85,7 +85,7 @@ pub record LinkConfined (g : Shape) (n : ℕ) (x : Call) : Type 0 where
   pub storage_long : (k : HostCall) → length (link g k x).storage ≡ length x.storage
   pub held_long : (k : HostCall) → length (link g k x).held ≡ length x.held
   -- bytes that encode no held state: a refusal, 4 unless 2 or 3 comes first, and all is left unchanged
-  pub wrong : (k : HostCall) → kept x.held ≡ Kept.Wrong
+  pub wrong : (k : HostCall) → kept x.held ≡ None
       → link g k x ≡ call (answer_no (wrong_held g (length x.storage) (length x.cells))) x.held x.storage x.cells
 
 -- ---- demand 3
@@ -109,14 +109,14 @@ spared_links g n x ks y = if_all_run g (spared g n x) ks y
 -- the first word that reads it is word k + 1 of a go from y, whose bytes say this held state
 pub record LinkFirst (g : Shape) (n : ℕ) (x : Area) (allowance k : ℕ) (y : Call) : Type 0 where
   pub said : Held
-  pub says : kept y.held ≡ Kept.Holds said
+  pub says : kept y.held ≡ Some said
   pub first : FirstReads g n x allowance k (world_by y said)
 
 -- then that go, from the same bytes and storage on the damaged pack, answers 0, chain ended, at that word: where u is the world of the undamaged pack
 -- before it, storage is that of u with a new status word, Unit Check and the word's whole count left; the bytes say Data Check; no cell changed
 pub record LinkEnds (x : Area) (u : World) (y z : Call) : Type 0 where
   pub word : Word
-  pub given : next u ≡ Tested.Obey word
+  pub given : next u ≡ Ok (Directive.Obey word)
   pub answer : z.answer ≡ answer_no Answer.ChainEnded
   pub held : z.held ≡ encoded (rested (with_sense u.held.position (data_check x.part)))
   pub storage : z.storage ≡ stored u.storage (status_for u.held.channel.key u.held.channel.next 0x0E 0x00 word.count)

@@ -13,8 +13,7 @@ use Rattle.cells.proofs.Numbers.{Bytes, part_bytes}
 use Rattle.cells.proofs.Marks.{both_never}
 use Rattle.cells.proofs.Tests.{first_of, second_of, pick_all}
 use Rattle.rows.specs.declared.{Row.Row}
-use Rattle.words.specs.declared.{Word.Word, Tested.Tested}
-use Rattle.words.specs.declared.Tested.TheVariants.{Obey, Jump, Bad}
+use Rattle.words.specs.declared.{Word.Word, Directive.Directive, Cause.Cause}
 use Rattle.words.proofs.Obeys.{TestedIn, tested_in}
 use Rattle.pack.specs.declared.{Shape.Shape}
 use Rattle.pack.specs.Pack.{start_of}
@@ -29,9 +28,8 @@ use Rattle.chain.specs.Step.{under, track_under, next, tracks_of, turn_of, step_
 use Rattle.chain.proofs.Fits.{selected_on, ordered}
 use Rattle.chain.proofs.Legal.{track_whole, step_legal}
 use Rattle.chain.proofs.Runs.{run_idle}
-use Rattle.host.specs.declared.{Answer.Answer, Guarded.Guarded}
-use Rattle.host.specs.declared.Guarded.TheVariants.{Passes, Answers}
-use Rattle.host.specs.Host.{hears, guard_of, guards, ran, goes, if_passes}
+use Rattle.host.specs.declared.{Answer.Answer}
+use Rattle.host.specs.Host.{hears, guard_of, guards, ran, goes, if_passes, no_refusal}
 use Rattle.host.proofs.Laws.{passes_legal}
 use Rattle.sound.specs.Sound.{Sound}
 use Rattle.claim_track.specs.Lasting.{Lasts, Leaves, unchanged, written}
@@ -43,6 +41,8 @@ use Rattle.claim_sound.specs.Soundness.{InBytes, writes_home, writes_r0, is_the,
 use Rattle.claim_sound.proofs.Bytes.{under-bytes}
 use Rattle.claim_sound.proofs.Tracks.{other_track, put_there, none_laid, checked_laid, run_same, go_same}
 use Rattle.claim_sound.proofs.Words.{step-bytes, call-bytes, calls_bytes}
+use Rattle.std.specs.Prelude.{Ok, Err, Result}
+use Rattle.words.specs.declared.Directive.TheVariants.{Obey, Jump}
 
 -- ---- a write that was done left what lasts
 
@@ -117,15 +117,15 @@ module _ (g : Shape) where
     -- ---- the next word
 
     module _ (y : Bool) (S : y ≡ true → Sound t) where
-      abbrev knows_by : Tested → Bool
+      abbrev knows_by : Result Directive Cause → Bool
       knows_by z = pick (tested_done g writes_home w z) false (pick (tested_done g writes_r0 w z) true y)
 
-      takes_sound : (z : Tested) → TestedIn w.storage z → knows_by z ≡ true → Sound (track (step_by g w z).cells here)
+      takes_sound : (z : Result Directive Cause) → TestedIn w.storage z → knows_by z ≡ true → Sound (track (step_by g w z).cells here)
       unfolding step_by stops tested_done track_under under start_of
-      takes_sound (Obey d) r q =
+      takes_sound (Ok (Obey d)) r q =
           subst Sound (sym (put_there g w L d r)) (act_sound d (rule_of d.code).act refl (is_check (turn_of g w d).ending) refl y q S)
-      takes_sound (Jump a) r q = S q
-      takes_sound (Bad cause) r q = S q
+      takes_sound (Ok (Jump a)) r q = S q
+      takes_sound (Err cause) r q = S q
 
     -- ---- any track
 
@@ -153,11 +153,11 @@ module _ (g : Shape) where
     one_act (Act.Write Write.CountKeyData) c e = absurd (false≢true e)
     one_act (Act.Write (Write.Update key)) c e = absurd (false≢true e)
 
-    one_done : (z : Tested) → tested_done g writes_r0 w z ≡ true → tested_done g writes_home w z ≡ false
+    one_done : (z : Result Directive Cause) → tested_done g writes_r0 w z ≡ true → tested_done g writes_home w z ≡ false
     unfolding tested_done
-    one_done (Obey d) e = one_act (rule_of d.code).act _ e
-    one_done (Jump a) e = refl
-    one_done (Bad cause) e = refl
+    one_done (Ok (Obey d)) e = one_act (rule_of d.code).act _ e
+    one_done (Ok (Jump a)) e = refl
+    one_done (Err cause) e = refl
 
     r0_known : (m : ℕ) → done_on g writes_r0 m w ≡ true → known_next g m w false ≡ true
     unfolding known_next done_on done
@@ -185,13 +185,13 @@ module _ (g : Shape) where
   -- ---- a call
 
   module _ (m : ℕ) (w : World) (b : InBytes w) (y : Bool) (S : Known m w.cells y) where
-    go_known : (n : ℕ) (x : Guarded) (c : Bool) → guard_of g w ≡ x → w.held.channel.going ≡ c
+    go_known : (n : ℕ) (x : Result (Unit {0}) Answer) (c : Bool) → guard_of g w ≡ x → w.held.channel.going ≡ c
         → Known m (guards x w (pick c (ran (run g n w)) (hears Answer.NoChain w))).left.cells (known_go x (known_run g m n w y) y)
     unfolding guards ran known_go
-    go_known n Passes true e f = run_known m n w (passes_legal g w e) b y S
-    go_known n Passes false e f =
+    go_known n (Ok tt) true e f = run_known m n w (passes_legal g w e) b y S
+    go_known n (Ok tt) false e f =
         subst (λ (v : World). Known m v.cells (known_run g m n w y)) (run_idle g n w f) (run_known m n w (passes_legal g w e) b y S)
-    go_known n (Answers a) c e f = S
+    go_known n (Err a) c e f = S
 
     call_known : (k : HostCall) → Known m (hear g k w).left.cells (known_call g m k w y)
     unfolding hear goes known_call
@@ -225,10 +225,10 @@ module _ (g : Shape) where
           ∙ h (second_of (not (done g writes_home w)) _ f)
       go false f h = refl
 
-  go_keeps : (m n : ℕ) (w : World) (x : Guarded) → if_passes x (spares g (done g writes_home) n w) ≡ true → known_go x (known_run g m n w true) true ≡ true
+  go_keeps : (m n : ℕ) (w : World) (x : Result (Unit {0}) Answer) → if_passes x (spares g (done g writes_home) n w) ≡ true → known_go x (known_run g m n w true) true ≡ true
   unfolding if_passes known_go
-  go_keeps m n w Passes e = run_keeps m n w e
-  go_keeps m n w (Answers a) e = refl
+  go_keeps m n w (Ok tt) e = run_keeps m n w e
+  go_keeps m n w (Err a) e = refl
 
   pub call_keeps : (m : ℕ) (k : HostCall) (w : World) → home_kept g k w ≡ true → known_call g m k w true ≡ true
   unfolding home_kept known_call

@@ -9,8 +9,7 @@ use lib.Dec.{eqb}
 use borrow.Author.Tests.{eqb-true, eqb-false, not-true}
 use Rattle.cells.specs.Cells.{pick, both, track_cells}
 use Rattle.cells.proofs.Tests.{first_of, second_of}
-use Rattle.words.specs.declared.{Word.Word, Tested.Tested}
-use Rattle.words.specs.declared.Tested.TheVariants.{Obey, Jump, Bad}
+use Rattle.words.specs.declared.{Word.Word, Directive.Directive, Cause.Cause}
 use Rattle.words.proofs.Obeys.{TestedIn, tested_in}
 use Rattle.pack.specs.declared.{Shape.Shape}
 use Rattle.pack.specs.Pack.{start_of}
@@ -21,8 +20,7 @@ use Rattle.command.proofs.Turns.{check_lays, only_writes-lay}
 use Rattle.channel.specs.Channel.{fetched, World, stops}
 use Rattle.chain.specs.Step.{under, track_under, next, turn_of, obeyed, step_by, step, run, Legal}
 use Rattle.chain.proofs.Legal.{step_legal}
-use Rattle.host.specs.declared.{Answer.Answer, Guarded.Guarded}
-use Rattle.host.specs.declared.Guarded.TheVariants.{Passes, Answers}
+use Rattle.host.specs.declared.{Answer.Answer}
 use Rattle.host.specs.Host.{hears, guard_of, guards, ran, goes, if_passes}
 use Rattle.host.proofs.Laws.{passes_legal}
 use Rattle.claim_box.specs.Confined.{track_on, spares}
@@ -31,6 +29,8 @@ use Rattle.claim_box.proofs.Outside.{apart, same_track}
 use Rattle.claim_box.proofs.Confined.{all_confined}
 use Rattle.claim_box.proofs.NextWord.{track-left}
 use Rattle.claim_sound.specs.Soundness.{any_write, is_the, tested_done, done, done_on, spares_done}
+use Rattle.std.specs.Prelude.{Ok, Err, Result}
+use Rattle.words.specs.declared.Directive.TheVariants.{Obey, Jump}
 
 module _ (g : Shape) where
   module _ (w : World) (L : Legal g w) where
@@ -73,12 +73,12 @@ module _ (g : Shape) where
       undone_laid (Act.Write k) e true f q = checked_laid f
       undone_laid (Act.Write k) e false f q = absurd (false≢true (sym q))
 
-    takes_same : (z : Tested) → TestedIn w.storage z → tested_done g any_write w z ≡ false → track (step_by g w z).cells here ≡ t
+    takes_same : (z : Result Directive Cause) → TestedIn w.storage z → tested_done g any_write w z ≡ false → track (step_by g w z).cells here ≡ t
     unfolding step_by stops tested_done track_under under start_of lay
-    takes_same (Obey d) r q =
+    takes_same (Ok (Obey d)) r q =
         put_there d r ∙ ap (λ (l : List Piece). lay l t) (undone_laid d (rule_of d.code).act refl (is_check (turn_of g w d).ending) refl q)
-    takes_same (Jump a) r q = refl
-    takes_same (Bad cause) r q = refl
+    takes_same (Ok (Jump a)) r q = refl
+    takes_same (Err cause) r q = refl
 
     -- ---- a track on which no write was done
 
@@ -109,8 +109,8 @@ module _ (g : Shape) where
   unfolding goes guards if_passes ran
   go_same m n w e = go (guard_of g w) w.held.channel.going refl e
     where
-      go : (x : Guarded) (b : Bool) → guard_of g w ≡ x → if_passes x (spares_done g m n w) ≡ true
+      go : (x : Result (Unit {0}) Answer) (b : Bool) → guard_of g w ≡ x → if_passes x (spares_done g m n w) ≡ true
           → track (guards x w (pick b (ran (run g n w)) (hears Answer.NoChain w))).left.cells m ≡ track w.cells m
-      go Passes true p q = run_same m n w (passes_legal g w p) q
-      go Passes false p q = refl
-      go (Answers a) b p q = refl
+      go (Ok tt) true p q = run_same m n w (passes_legal g w p) q
+      go (Ok tt) false p q = refl
+      go (Err a) b p q = refl

@@ -16,18 +16,17 @@ use Rattle.rows.specs.Rows.{sense_of}
 use Rattle.areas.specs.declared.{Part.Part, Counts.Counts}
 use Rattle.areas.specs.Areas.{readable, row_of, count_area, counts_of, counts_at}
 use Rattle.room.specs.Room.{fits}
-use Rattle.pack.specs.declared.{Head.Head, Shape.Shape, Sought.Sought}
+use Rattle.pack.specs.declared.{Head.Head, Shape.Shape, Cylinder.Cylinder}
 use Rattle.held.specs.declared.{Position.Position, Orders.Orders}
 use Rattle.table.specs.declared.{Names.Names, Control.Control, Write.Write, Act.Act}
 use Rattle.table.specs.Table.{rule_of, is_mask}
 use Rattle.turn.specs.declared.{Ending.Ending}
 use Rattle.turn.specs.Turn.{Tracks, TrackArea, Piece, Moves, given, Turn, position_at, with_sense, position_sought, check_turn}
-use Rattle.command.specs.declared.{Task.Task, Plan.Plan, Got.Got}
-use Rattle.command.specs.declared.Plan.TheVariants.{Refuses, Works}
-use Rattle.command.specs.declared.Got.TheVariants.{Sees, Fails}
+use Rattle.command.specs.declared.{Task.Task}
 use Rattle.command.specs.Command.{marks_of, plan_of, areas_of, all_read, counts_in, gets, Seen, seen, seen_with, seen_of, Sight, sight, fail_turn, sense_after, position_after, end_turn_at, end_turn, no_op_turn, sense_bytes, sense_turn, addressed, arrival_turn, seek_turn, masked_turn, mask_turn, space_turn, id_of, field_turn, search_turn, count_moved, offered, read_turn, home_turn, new_turn, r0_turn, record_turn, update_turn, control_turn, write_turn, act_turn, job_of, has_read, ready_by, ready_turn, rule_turn, command}
 use Rattle.claim_box.specs.Boxes.{all_under}
 use Rattle.claim_sound.proofs.Bytes.{under-append, high_byte, low_byte, under-bytes, area-under}
+use Rattle.std.specs.Prelude.{Ok, Err, Result}
 
 -- ---- sense, and what is given
 
@@ -82,15 +81,15 @@ names_bytes Names.Nothing t h c = record { cc = lit< tt; hh = lit< tt; r = lit< 
 names_bytes Names.HomeAddress t h c = record { cc = lit< tt; hh = lit< tt; r = lit< tt; kl = lit< tt; dl = lit< tt }
 names_bytes (Names.Count key body) t h c = counted _ (under-bytes _ (area-under (t h) (count_area c)))
 
-abbrev GotBytes : Got → Type 0
-GotBytes (Sees n) = CountBytes n
-GotBytes (Fails row) = Unit {0}
+abbrev GotBytes : Result Counts Row → Type 0
+GotBytes (Ok n) = CountBytes n
+GotBytes (Err row) = Unit {0}
 
-read_bytes : (t : Tracks) (l : List TrackArea) (x : Got) → GotBytes x → GotBytes (all_read t l x)
+read_bytes : (t : Tracks) (l : List TrackArea) (x : Result Counts Row) → GotBytes x → GotBytes (all_read t l x)
 unfolding all_read
 read_bytes t [] x b = b
 read_bytes t (a ∷ l) x b =
-    pick_all GotBytes (readable (t a.head) a.area) {x = all_read t l x} {y = Fails (row_of a.area.part)} (read_bytes t l x b) tt
+    pick_all GotBytes (readable (t a.head) a.area) {x = all_read t l x} {y = Err (row_of a.area.part)} (read_bytes t l x b) tt
 
 gets-bytes : (n : Names) (t : Tracks) (h : Head) (c : ℕ) → GotBytes (gets n t h c)
 unfolding gets
@@ -145,10 +144,10 @@ module _ (x : Sight) (s : SenseBytes x.job.position.sense) (e : SeenBytes x.seen
   unfolding end_turn_at position_after position_at
   end_bytes k f m l whole g = record { sense = after-bytes; gives = g }
 
-  arrival_bytes : (y : Sought) → TurnBytes (arrival_turn x y)
+  arrival_bytes : (y : Result (Cylinder × Head) Row) → TurnBytes (arrival_turn x y)
   unfolding arrival_turn position_sought position_at given all_under
-  arrival_bytes (Sought.To c h) = record { sense = (lit< tt, lit< tt); gives = refl }
-  arrival_bytes (Sought.Fails row) = fail_bytes row
+  arrival_bytes (Ok (c, h)) = record { sense = (lit< tt, lit< tt); gives = refl }
+  arrival_bytes (Err row) = fail_bytes row
 
   mask_bytes_lem : (byte : ℕ) → TurnBytes (mask_turn x byte)
   unfolding mask_turn masked_turn position_after position_at given all_under
@@ -188,15 +187,15 @@ module _ (x : Sight) (s : SenseBytes x.job.position.sense) (e : SeenBytes x.seen
   act_bytes g (Act.Write w) = write_bytes w
 
 module _ (g : Shape) (t : Tracks) (s : Position) (o : Orders) (code : ℕ) (v : List ℕ) (b : SenseBytes s.sense) where
-  got_bytes : (l : List TrackArea) (k : Task) (y : Got) → GotBytes y → TurnBytes (ready_turn g t s o v l (has_read code (rule_of code) s o k y))
+  got_bytes : (l : List TrackArea) (k : Task) (y : Result Counts Row) → GotBytes y → TurnBytes (ready_turn g t s o v l (has_read code (rule_of code) s o k y))
   unfolding ready_turn has_read sight
-  got_bytes l k (Sees n) c = act_bytes (sight t (job_of code (rule_of code) s o k n) v) b (seen_bytes t _) c g _
-  got_bytes l k (Fails row) c = check-bytes s o l row
+  got_bytes l k (Ok n) c = act_bytes (sight t (job_of code (rule_of code) s o k n) v) b (seen_bytes t _) c g _
+  got_bytes l k (Err row) c = check-bytes s o l row
 
-  plan_bytes : (l : List TrackArea) (p : Plan) → TurnBytes (ready_turn g t s o v l (ready_by t code (rule_of code) s o p))
+  plan_bytes : (l : List TrackArea) (p : Result Task Row) → TurnBytes (ready_turn g t s o v l (ready_by t code (rule_of code) s o p))
   unfolding ready_turn ready_by
-  plan_bytes l (Refuses row) = check-bytes s o l row
-  plan_bytes l (Works k) = got_bytes l k _ (gets-bytes (rule_of code).names t k.head k.place)
+  plan_bytes l (Err row) = check-bytes s o l row
+  plan_bytes l (Ok k) = got_bytes l k _ (gets-bytes (rule_of code).names t k.head k.place)
 
   pub command-bytes : TurnBytes (command g t s o code v)
   unfolding command rule_turn

@@ -10,9 +10,7 @@ use lib.Dec.{ltb, leb, lit<}
 use borrow.Author.Tests.{lt-ltb}
 use Rattle.cells.specs.Cells.{pick}
 use Rattle.cells.proofs.Tests.{both_of, pick_all}
-use Rattle.words.specs.declared.{Word.Word, Status.Status, Cause.Cause, Tested.Tested, Begun.Begun}
-use Rattle.words.specs.declared.Tested.TheVariants.{Obey, Jump, Bad}
-use Rattle.words.specs.declared.Begun.TheVariants.{Begins, Refused}
+use Rattle.words.specs.declared.{Word.Word, Status.Status, Cause.Cause, Directive.Directive}
 use Rattle.words.specs.Words.{word_at, tested_command, tested_word, tested, status_bytes, stored, status_for, channel_for, program_check, flags_known, is_tic, in_place, begun_by}
 use Rattle.pack.specs.declared.{Shape.Shape}
 use Rattle.held.specs.declared.{Channel.Channel, Held.Held}
@@ -23,8 +21,7 @@ use Rattle.channel.specs.Channel.{fetched, placed, unit_status, goes_on, wrong_l
 use Rattle.chain.specs.Step.{next, turn_of, settled, obeyed, step_by, step, run, Legal}
 use Rattle.chain.proofs.Fits.{key_in, channeled}
 use Rattle.chain.proofs.Legal.{step_legal}
-use Rattle.host.specs.declared.{Answer.Answer, Guarded.Guarded}
-use Rattle.host.specs.declared.Guarded.TheVariants.{Passes, Answers}
+use Rattle.host.specs.declared.{Answer.Answer}
 use Rattle.host.specs.Host.{Hears, hears, guard_of, guards, refuses_start, beginning, first_word, begins, starts, ran, goes}
 use Rattle.host.proofs.Laws.{passes_legal}
 use Rattle.claim_box.specs.Boxes.{all_under}
@@ -32,6 +29,8 @@ use Rattle.claim_box.specs.Demand3.{HostCall, start, go, hear, left}
 use Rattle.claim_sound.specs.Soundness.{InBytes}
 use Rattle.claim_sound.proofs.Bytes.{under-take, under-overlay, high_byte, low_byte, under-bytes}
 use Rattle.claim_sound.proofs.Turns.{TurnBytes, command-bytes}
+use Rattle.std.specs.Prelude.{Ok, Err, Some, None, Result, Option}
+use Rattle.words.specs.declared.Directive.TheVariants.{Obey, Jump}
 
 -- ---- the status word
 
@@ -87,10 +86,10 @@ after-fits c d r h k = record {
 
 -- ---- a command word of bytes has a count of two
 
-abbrev CountFits : Tested → Type 0
-CountFits (Obey d) = d.count < 65536
-CountFits (Jump a) = Unit {0}
-CountFits (Bad cause) = Unit {0}
+abbrev CountFits : Result Directive Cause → Type 0
+CountFits (Ok (Obey d)) = d.count < 65536
+CountFits (Ok (Jump a)) = Unit {0}
+CountFits (Err cause) = Unit {0}
 
 module _ (s : List ℕ) (b : all_under 256 s ≡ true) where
   word_count : (at : ℕ) → (word_at s at).count < 65536
@@ -102,14 +101,14 @@ module _ (s : List ℕ) (b : all_under 256 s ≡ true) where
   command-count w h =
       pick_all CountFits (flags_known w)
       (pick_all CountFits (ltb 0 w.count)
-      (pick_all CountFits (ltb 0 (w.code % 16)) (pick_all CountFits (leb (w.address + w.count) (length s)) {x = Obey w} {y = Bad Cause.Area} h tt) tt) tt) tt
+      (pick_all CountFits (ltb 0 (w.code % 16)) (pick_all CountFits (leb (w.address + w.count) (length s)) {x = Ok (Obey w)} {y = Err Cause.Area} h tt) tt) tt) tt
 
   tested-count : (at : ℕ) (tic : Bool) → CountFits (tested s at tic)
   unfolding tested tested_word
   tested-count at tic =
       pick_all CountFits (in_place s at)
       (pick_all CountFits (is_tic (word_at s at))
-      (pick_all CountFits tic {x = Bad Cause.TicAfterTic} {y = Jump (word_at s at).address} tt tt) (command-count (word_at s at) (word_count at))) tt
+      (pick_all CountFits tic {x = Err Cause.TicAfterTic} {y = Ok (Jump (word_at s at).address)} tt tt) (command-count (word_at s at) (word_count at))) tt
 
 -- ---- a word
 
@@ -130,11 +129,11 @@ module _ (g : Shape) where
           byte1 = pick_all (λ (k : Held). k.position.sense.byte1 < 256) (goes_on d (report_of x)) t.sense.1 t.sense.1;
         }
 
-    takes_bytes : (x : Tested) → CountFits x → InBytes (step_by g w x)
+    takes_bytes : (x : Result Directive Cause) → CountFits x → InBytes (step_by g w x)
     unfolding step_by obeyed turn_of stops jumped rested
-    takes_bytes (Obey d) h = settled-bytes d _ h (command-bytes g _ w.held.position w.held.orders d.code (fetched w.storage d) (b.byte0, b.byte1))
-    takes_bytes (Jump a) h = record { storage = b.storage; byte0 = b.byte0; byte1 = b.byte1 }
-    takes_bytes (Bad cause) h = record {
+    takes_bytes (Ok (Obey d)) h = settled-bytes d _ h (command-bytes g _ w.held.position w.held.orders d.code (fetched w.storage d) (b.byte0, b.byte1))
+    takes_bytes (Ok (Jump a)) h = record { storage = b.storage; byte0 = b.byte0; byte1 = b.byte1 }
+    takes_bytes (Err cause) h = record {
       storage = stored_bytes w.storage _ b.storage (check-fits _ _ cause key_fits);
       byte0 = b.byte0;
       byte1 = b.byte1;
@@ -159,30 +158,30 @@ module _ (g : Shape) where
     unfolding refuses_start
     refuses_bytes = record { storage = under-overlay 256 w.storage 68 _ b.storage (unfold all_under in refl); byte0 = b.byte0; byte1 = b.byte1 }
 
-    first_bytes : (key at : ℕ) (x : Tested) → InBytes (first_word w key at x).left
+    first_bytes : (key at : ℕ) (x : Result Directive Cause) → InBytes (first_word w key at x).left
     unfolding first_word beginning
-    first_bytes key at (Obey d) = record { storage = b.storage; byte0 = b.byte0; byte1 = b.byte1 }
-    first_bytes key at (Jump a) = refuses_bytes
-    first_bytes key at (Bad cause) = refuses_bytes
+    first_bytes key at (Ok (Obey d)) = record { storage = b.storage; byte0 = b.byte0; byte1 = b.byte1 }
+    first_bytes key at (Ok (Jump a)) = refuses_bytes
+    first_bytes key at (Err cause) = refuses_bytes
 
-    begins-bytes : (x : Begun) → InBytes (begins w x).left
+    begins-bytes : (x : Option (ℕ × ℕ)) → InBytes (begins w x).left
     unfolding begins
-    begins-bytes (Begins key first) = first_bytes key _ _
-    begins-bytes Refused = refuses_bytes
+    begins-bytes (Some (key, first)) = first_bytes key _ _
+    begins-bytes None = refuses_bytes
 
     abbrev LeavesBytes : Hears → Type 0
     LeavesBytes x = InBytes x.left
 
-    starts-bytes : (x : Guarded) (y : Hears) → LeavesBytes y → InBytes (guards x w y).left
+    starts-bytes : (x : Result (Unit {0}) Answer) (y : Hears) → LeavesBytes y → InBytes (guards x w y).left
     unfolding guards
-    starts-bytes Passes y h = h
-    starts-bytes (Answers a) y h = b
+    starts-bytes (Ok tt) y h = h
+    starts-bytes (Err a) y h = b
 
-    goes-bytes : (n : ℕ) (x : Guarded) (t : Bool) → guard_of g w ≡ x → InBytes (guards x w (pick t (ran (run g n w)) (hears Answer.NoChain w))).left
+    goes-bytes : (n : ℕ) (x : Result (Unit {0}) Answer) (t : Bool) → guard_of g w ≡ x → InBytes (guards x w (pick t (ran (run g n w)) (hears Answer.NoChain w))).left
     unfolding guards ran
-    goes-bytes n Passes true e = run-bytes n w (passes_legal g w e) b
-    goes-bytes n Passes false e = b
-    goes-bytes n (Answers a) t e = b
+    goes-bytes n (Ok tt) true e = run-bytes n w (passes_legal g w e) b
+    goes-bytes n (Ok tt) false e = b
+    goes-bytes n (Err a) t e = b
 
     pub call-bytes : (k : HostCall) → InBytes (hear g k w).left
     unfolding hear starts goes

@@ -1,21 +1,21 @@
 -- Demand 3 takes a soundly written track; this carries soundness from chain to chain (REFERENCE 9.6). A pack whose tracks are all soundly written stays so
 -- through start and go, over every chain, allowance and list of calls in which no Write HA ended without Unit Check; after one that did, its track is soundly
 -- written again as soon as a Write R0 on it has ended without one. First: storage of bytes stays bytes, for what is written is fetched from there.
-use Rattle.std.specs.Prelude.{ℕ, zero, suc, ◌*◌, ◌<◌, ◌≡◌, Bool, true, false, not, List, [], ◌∷◌, eqb}
+use Rattle.std.specs.Prelude.{ℕ, zero, suc, ◌*◌, ◌<◌, ◌≡◌, Bool, true, false, not, List, [], ◌∷◌, eqb, Ok, Err, Result}
 use Rattle.cells.specs.Cells.{pick, both}
-use Rattle.words.specs.declared.{Tested.Tested}
 use Rattle.pack.specs.declared.{Shape.Shape}
 use Rattle.table.specs.declared.{Write.Write, Act.Act}
 use Rattle.table.specs.Table.{rule_of}
 use Rattle.turn.specs.Turn.{is_check}
 use Rattle.channel.specs.Channel.{World}
 use Rattle.chain.specs.Step.{next, turn_of, step, run, Legal}
-use Rattle.host.specs.declared.{Guarded.Guarded}
 use Rattle.host.specs.Host.{guard_of, if_passes, goes}
 use Rattle.sound.specs.Sound.{Sound}
 use Rattle.claim_box.specs.Boxes.{all_under}
 use Rattle.claim_box.specs.Confined.{track_on, spares}
 use Rattle.claim_box.specs.Demand3.{track, HostCall, start, go, hear, left}
+use Rattle.words.specs.declared.{Directive.Directive, Cause.Cause}
+use Rattle.host.specs.declared.{Answer.Answer}
 
 -- ---- bytes: storage, and sense, which the command Sense stores
 
@@ -50,10 +50,10 @@ is_the f (Act.Search h) = false
 is_the f (Act.Read counted) = false
 is_the f (Act.Write k) = f k
 
-unfoldable pub tested_done : Shape → (Write → Bool) → World → Tested → Bool
-tested_done g f w (Tested.Obey d) = both (is_the f (rule_of d.code).act) (not (is_check (turn_of g w d).ending))
-tested_done g f w (Tested.Jump a) = false
-tested_done g f w (Tested.Bad cause) = false
+unfoldable pub tested_done : Shape → (Write → Bool) → World → Result Directive Cause → Bool
+tested_done g f w (Ok (Directive.Obey d)) = both (is_the f (rule_of d.code).act) (not (is_check (turn_of g w d).ending))
+tested_done g f w (Ok (Directive.Jump a)) = false
+tested_done g f w (Err cause) = false
 
 -- on whichever track; on track m
 unfoldable pub done : Shape → (Write → Bool) → World → Bool
@@ -78,9 +78,9 @@ known_run g m zero w b = b
 known_run g m (suc n) w b = pick w.held.channel.going (known_run g m n (step g w) (known_next g m w b)) b
 
 -- after a call: a start and a refused go run no word
-unfoldable pub known_go : Guarded → Bool → Bool → Bool
-known_go Guarded.Passes ran b = ran
-known_go (Guarded.Answers a) ran b = b
+unfoldable pub known_go : Result (Unit {0}) Answer → Bool → Bool → Bool
+known_go (Ok tt) ran b = ran
+known_go (Err a) ran b = b
 
 unfoldable pub known_call : Shape → ℕ → HostCall → World → Bool → Bool
 known_call g m start w b = b

@@ -21,17 +21,14 @@ use Rattle.hunt.specs.Hunt.{count_first}
 use Rattle.room.specs.Room.{fits}
 use Rattle.room.proofs.Laws.{fits_ends}
 use Rattle.pack.specs.declared.{Head.Head, Shape.Shape}
-use Rattle.held.specs.declared.{Selection.Selection, Position.Position, Orders.Orders}
-use Rattle.held.specs.declared.Selection.TheVariants.{Nothing, On}
+use Rattle.held.specs.declared.{Position.Position, Orders.Orders}
 use Rattle.turn.specs.declared.Ending.TheVariants.{Normal, Exception, Check}
 use Rattle.turn.specs.Turn.{position_at, after, orders_of, Tracks, TrackArea, Piece, Moves, Takes, Turn, lay, check_turn}
-use Rattle.command.specs.declared.{Got.Got, Task.Task, Plan.Plan}
-use Rattle.command.specs.declared.Got.TheVariants.{Sees, Fails}
+use Rattle.command.specs.declared.{Task.Task}
 use Rattle.format.specs.Format.{new_counts, new_record}
 use Rattle.format.proofs.Laws.{formatted, length-area, length-new}
 use Rattle.table.specs.declared.{Licence.Licence, Bar.Bar, Write.Write, Act.Act, Rule.Rule}
 use Rattle.table.specs.Table.{rule_of, find, controls, searches, reads, writes, bars_write}
-use Rattle.command.specs.declared.Plan.TheVariants.{Refuses, Works}
 use Rattle.command.specs.Command.{marks_of, home_done, licensed, task, home_place, SelectedOn, tallies, on_record, aimed, unless_barred, named, on_head, areas_of, all_read, no_counts, counts_in, gets, seen_with, seen_of, goes_over, writes_over, all_recorded, Sight, areas_read, sight, fail_turn, end_turn_at, end_turn, ending_of, piece, to_end, home_turn, record_takes, new_turn, r0_turn, record_turn, over_piece, key_sent, update_turn, write_turn, act_turn, job_of, has_read, ready_by, plan_reads, ready_turn, rule_turn, command, position_after, orders_after}
 use Rattle.command.proofs.Pieces.{format_is}
 use Rattle.sound.specs.Sound.{Sound}
@@ -40,6 +37,7 @@ use Rattle.claim_track.specs.Lasting.{HomeOnly, Lasts, NewBack, ReadsBack, Took,
 use Rattle.claim_track.proofs.Format.{flag_of_r0_lem, home_back, home_lasts, r0_back, r0_lasts, record_back, record_lasts}
 use Rattle.claim_track.proofs.Update.{updated, update_is, update_lasts, update_back}
 use Rattle.claim_track.proofs.Works.{permitted_plan, OnSelected, Needs, write_turn_lem}
+use Rattle.std.specs.Prelude.{None, Some, Ok, Err, Option, Result}
 
 -- ---- what is laid
 
@@ -103,7 +101,7 @@ module _ (r : Rule) (tr : Tracks) (s : Position) (o : Orders) (v : List ℕ) (lo
         (λ h. subst (λ (f : ℕ). NewBack f v (formatted t r0_first (new_record flag v)) r0_first) e
         (r0_back t v long b flag h (omega (arith, e, flag_of_r0_lem (home_flag t)))))
 
-    record_good : (spot : Spot) → o.selection ≡ On spot → IsRecord t spot
+    record_good : (spot : Spot) → o.selection ≡ Some spot → IsRecord t spot
         → Good Write.CountKeyData (record_turn x (end_by (count_first spot) (counts_at t (count_first spot))) (flag_after (counts_at t (count_first spot)).flag))
     unfolding record_turn needed sight Took Lasts ReadsBack
     record_good spot took B =
@@ -114,7 +112,7 @@ module _ (r : Rule) (tr : Tracks) (s : Position) (o : Orders) (v : List ℕ) (lo
         (omega (arith, length-new (flag_after m.flag) v))
         (λ h. λ S. record_lasts t v long b at m.flag h S spot B refl refl) (λ h. record_back t v long b at m.flag h)
 
-    update_good : (key : Bool) (spot : Spot) → o.selection ≡ On spot → IsRecord t spot
+    update_good : (key : Bool) (spot : Spot) → o.selection ≡ Some spot → IsRecord t spot
         → x.recorded ≡ all_recorded t (named (count_first spot) key true (counts_at t (count_first spot)))
         → Good (Write.Update key) (update_turn key x (count_first spot) (counts_at t (count_first spot)))
     unfolding update_turn end_turn ending_of sight Took Lasts ReadsBack
@@ -138,7 +136,7 @@ module _ (r : Rule) (tr : Tracks) (s : Position) (o : Orders) (v : List ℕ) (lo
     -- ---- a write that has what it needs
 
     module _ (sel : SelectedOn (marks t) o.selection) where
-      begun : (spot : Spot) → o.selection ≡ On spot → IsRecord t spot
+      begun : (spot : Spot) → o.selection ≡ Some spot → IsRecord t spot
       unfolding SelectedOn
       begun spot e = subst (SelectedOn (marks t)) e sel
 
@@ -195,14 +193,14 @@ normal_lasts r w o v t x e (unchanged row c q) = absurd (not_check false row (sy
 normal_lasts r w o v t x e (written a spot took g p q) = p
 
 -- what such a write sees when it lays
-abbrev write_sight : Tracks → Position → Orders → ℕ → ℕ → Selection → List ℕ → Sight
+abbrev write_sight : Tracks → Position → Orders → ℕ → ℕ → Option Spot → List ℕ → Sight
 write_sight t s o code place x v = sight t (job_of code (rule_of code) s o (task s.head place x 0) no_counts) v
 
 permits : (o : Orders) → bars_write o.mask HomeOrR0 ≡ false → (r : Rule) → r.bar ≡ Bar.Writes HomeOrR0 → licensed r.licence o ≡ true → Permitted r o
 unfolding unless_barred
 permits o allowed r e l = record {
   licence = l;
-  mask = λ p. ap (λ (b : Bar). unless_barred b o.mask p) e ∙ second_picked (bars_write o.mask HomeOrR0) (Refuses Row.WriteBarred) p allowed;
+  mask = λ p. ap (λ (b : Bar). unless_barred b o.mask p) e ∙ second_picked (bars_write o.mask HomeOrR0) (Err Row.WriteBarred) p allowed;
 }
 
 module _ (g : Shape) (t : Tracks) (s : Position) (o : Orders) (v : List ℕ) (allowed : bars_write o.mask HomeOrR0 ≡ false) where
@@ -210,25 +208,25 @@ module _ (g : Shape) (t : Tracks) (s : Position) (o : Orders) (v : List ℕ) (al
   unfolding licensed rule_of find controls searches reads writes
   home_permitted = permits o allowed (rule_of 0x19) refl refl
 
-  home_is : command g t s o 0x19 v ≡ home_turn (write_sight t s o 0x19 home_place Nothing v)
+  home_is : command g t s o 0x19 v ≡ home_turn (write_sight t s o 0x19 home_place None v)
   unfolding command rule_turn aimed ready_turn ready_by has_read gets areas_of counts_in all_read act_turn write_turn rule_of find controls searches reads writes
   home_is =
       let r : Rule = rule_of 0x19 in
-      ap (λ (p : Plan). ready_turn g t s o v (plan_reads t r p) (ready_by t 0x19 r s o p)) (permitted_plan r (marks_of t) s o home_permitted)
+      ap (λ (p : Result Task Row). ready_turn g t s o v (plan_reads t r p) (ready_by t 0x19 r s o p)) (permitted_plan r (marks_of t) s o home_permitted)
 
   module _ (before : licensed Licence.HomeAddress o ≡ true) (home : readable (t s.head) home_area ≡ true) where
     r0_permitted : Permitted (rule_of 0x15) o
     unfolding rule_of find controls searches reads writes
     r0_permitted = permits o allowed (rule_of 0x15) refl before
 
-    r0_is : command g t s o 0x15 v ≡ r0_turn (write_sight t s o 0x15 r0_first (On Spot.R0) v) (flag_of_r0 (home_flag (t s.head)))
+    r0_is : command g t s o 0x15 v ≡ r0_turn (write_sight t s o 0x15 r0_first (Some Spot.R0) v) (flag_of_r0 (home_flag (t s.head)))
     unfolding command rule_turn aimed on_record tallies count_first ready_turn ready_by has_read gets areas_of on_head counts_in all_read seen_of seen_with act_turn write_turn sight areas_read rule_of find controls searches reads writes
     r0_is =
-        let k : Task = task s.head r0_first (On Spot.R0) 0 in
+        let k : Task = task s.head r0_first (Some Spot.R0) 0 in
         let r : Rule = rule_of 0x15 in
-        ap (λ (p : Plan). ready_turn g t s o v (plan_reads t r p) (ready_by t 0x15 r s o p)) (permitted_plan r (marks_of t) s o r0_permitted)
-        ∙ ap (λ (y : Got). ready_turn g t s o v (plan_reads t r (Works k)) (has_read 0x15 r s o k y))
-        (first_picked (readable (t s.head) home_area) (Sees no_counts) (Fails (row_of home_area.part)) home)
+        ap (λ (p : Result Task Row). ready_turn g t s o v (plan_reads t r p) (ready_by t 0x15 r s o p)) (permitted_plan r (marks_of t) s o r0_permitted)
+        ∙ ap (λ (y : Result Counts Row). ready_turn g t s o v (plan_reads t r (Ok k)) (has_read 0x15 r s o k y))
+        (first_picked (readable (t s.head) home_area) (Ok no_counts) (Err (row_of home_area.part)) home)
 
     -- Write R0 after home address work, with room
     pub r0_sound : length (t s.head) ≡ track_cells → Bytes v
@@ -236,8 +234,8 @@ module _ (g : Shape) (t : Tracks) (s : Position) (o : Orders) (v : List ℕ) (al
     unfolding r0_turn new_turn end_turn_at sight Lasts
     r0_sound long b room =
         let flag : ℕ = flag_of_r0 (home_flag (t s.head)) in
-        let k : Task = task s.head r0_first (On Spot.R0) 0 in
-        let x : Turn = r0_turn (write_sight t s o 0x15 r0_first (On Spot.R0) v) flag in
+        let k : Task = task s.head r0_first (Some Spot.R0) 0 in
+        let x : Turn = r0_turn (write_sight t s o 0x15 r0_first (Some Spot.R0) v) flag in
         let e : x.ending ≡ Normal = ap (λ (y : Turn). y.ending) (first_picked (fits r0_first (record_cells (new_counts flag v))) _ _ room) in
         subst (λ (y : Turn). Sound (lay y.lays (t s.head))) (sym r0_is)
         (normal_lasts _ Write.R0 o v (t s.head) x e (r0_good (rule_of 0x15) t s o v long b r0_permitted 0x15 k no_counts refl flag refl home))
@@ -249,13 +247,13 @@ module _ (g : Shape) (t : Tracks) (s : Position) (o : Orders) (v : List ℕ) (al
       → fits r0_first (record_cells (new_counts (flag_of_r0 (home_flag (t' s.head))) u)) ≡ true
       → Sound (lay (command g t' x.position x.orders 0x15 u).lays (t' s.head))
 
-  then_r0 : length (t s.head) ≡ track_cells → Bytes v → ThenR0 (home_turn (write_sight t s o 0x19 home_place Nothing v))
+  then_r0 : length (t s.head) ≡ track_cells → Bytes v → ThenR0 (home_turn (write_sight t s o 0x19 home_place None v))
   unfolding home_turn end_turn end_turn_at position_after position_at orders_after after orders_of sight Lasts licensed home_done
   then_r0 long b t' e u b' room =
-      let x : Turn = home_turn (write_sight t s o 0x19 home_place Nothing v) in
+      let x : Turn = home_turn (write_sight t s o 0x19 home_place None v) in
       let H : HomeOnly (t' s.head) =
       subst HomeOnly (sym e) (normal_lasts _ Write.HomeAddress o v (t s.head) x refl
-      (home_good (rule_of 0x19) t s o v long b (home_permitted g t s o v allowed) 0x19 (task s.head home_place Nothing 0) no_counts refl)) in
+      (home_good (rule_of 0x19) t s o v long b (home_permitted g t s o v allowed) 0x19 (task s.head home_place None 0) no_counts refl)) in
       r0_sound g t' x.position x.orders u allowed refl H.home H.long b' room
 
   pub home_then_r0 : length (t s.head) ≡ track_cells → Bytes v → ThenR0 (command g t s o 0x19 v)

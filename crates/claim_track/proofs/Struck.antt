@@ -11,17 +11,16 @@ use borrow.Author.Tests.{ltb-true, not-true}
 use Rattle.table.specs.Table.{is_write, rule_of, controls, searches, reads, writes}
 use Rattle.cells.specs.Cells.{either, marks}
 use Rattle.cells.proofs.Tests.{pick_all, second_of}
-use Rattle.areas.specs.declared.{Area.Area, Counts.Counts, CountRead.CountRead}
+use Rattle.areas.specs.declared.{Area.Area, Counts.Counts}
 use Rattle.areas.specs.Areas.{readable, row_of, count_area, counts_at, read_count, key_area, data_area}
 use Rattle.hunt.specs.declared.{Spot.Spot}
 use Rattle.hunt.specs.Hunt.{count_first}
 use Rattle.pack.specs.declared.{Head.Head, Shape.Shape}
-use Rattle.held.specs.declared.{Selection.Selection, Position.Position, Orders.Orders}
+use Rattle.held.specs.declared.{Position.Position, Orders.Orders}
 use Rattle.command.specs.Command.{area_if, named, named_by, SelectedOn, marks_of, on_head, areas_of, plan_reads, command}
 use Rattle.table.specs.declared.{Names.Names, Rule.Rule}
 use Rattle.table.proofs.Laws.{each, every, of_every}
 use Rattle.turn.specs.Turn.{Tracks, TrackArea, check_turn}
-use Rattle.command.specs.declared.{Plan.Plan}
 use Rattle.command.proofs.Planned.{takes_record, Planned, refuses, stays, home, takes, plan_is}
 use Rattle.command.specs.Frame.{AllSame, Breaks, ReadsUnder}
 use Rattle.command.proofs.Turns.{command-reads}
@@ -30,6 +29,9 @@ use Rattle.command.proofs.Broken.{command_broken}
 use Rattle.command.proofs.Here.{reads_here}
 use Rattle.claim_track.specs.Damage.{IsRecord, Own, own_home, own_count, own_key, own_data, any}
 use Rattle.claim_track.proofs.Hurts.{Hurt}
+use Rattle.std.specs.Prelude.{Some, None, Option, Result}
+use Rattle.command.specs.declared.{Task.Task}
+use Rattle.rows.specs.declared.{Row.Row}
 
 abbrev pub lies : Head → Area → TrackArea
 lies h a = record { head = h; area = a }
@@ -79,8 +81,8 @@ module _ (t : Tracks) (h : Head) where
   own_record r Names.HomeAddress b = (own_home, tt)
   own_record r (Names.Count key body) b = (
     own_count r b,
-    pick_all (λ (x : CountRead). OwnAll t (on_head h (named_by (count_first r) key body x))) (readable (t h) (count_area (count_first r)))
-        {x = CountRead.Reads (counts_at (t h) (count_first r))} {y = CountRead.Fails} (own_named r key body b) tt,
+    pick_all (λ (x : Option Counts). OwnAll t (on_head h (named_by (count_first r) key body x))) (readable (t h) (count_area (count_first r)))
+        {x = Some (counts_at (t h) (count_first r))} {y = None} (own_named r key body b) tt,
   )
 
   own_bare : (n : Names) (c : ℕ) → names_record n ≡ false → OwnAll t (areas_of n t h c)
@@ -89,7 +91,7 @@ module _ (t : Tracks) (h : Head) where
   own_bare Names.HomeAddress c e = (own_home, tt)
   own_bare (Names.Count key body) c e = absurd (true≢false e)
 
-own_plan : (t : Tracks) (r : Rule) (s : Position) (x : Selection) (p : Plan) → (takes_record r.aim ≡ false → names_record r.names ≡ false)
+own_plan : (t : Tracks) (r : Rule) (s : Position) (x : Option Spot) (p : Result Task Row) → (takes_record r.aim ≡ false → names_record r.names ≡ false)
     → SelectedOn (marks (t s.head)) x → Planned (marks (t s.head)) r s x r.aim p → OwnAll t (plan_reads t r p)
 unfolding plan_reads takes_record
 own_plan t r s x p e sel (refuses row) = tt

@@ -16,17 +16,15 @@ use Rattle.hunt.specs.declared.{Spot.Spot}
 use Rattle.hunt.specs.Hunt.{count_first}
 use Rattle.pack.specs.declared.{Head.Head, Shape.Shape}
 use Rattle.held.specs.declared.{Position.Position, Orders.Orders}
-use Rattle.held.specs.declared.Selection.TheVariants.{On}
-use Rattle.command.specs.declared.{Got.Got, Task.Task, Plan.Plan}
-use Rattle.command.specs.declared.Got.TheVariants.{Sees, Fails}
+use Rattle.command.specs.declared.{Task.Task}
 use Rattle.command.specs.Command.{seen_with, Marks, marks_of, licensed, aimed, plan_of, on_head, areas_of, all_read, counts_in, gets, seen_of, sight, write_turn, act_turn, job_of, has_read, ready_by, plan_reads, ready_turn, rule_turn, command}
 use Rattle.table.specs.declared.{Aim.Aim, Names.Names, Write.Write, Act.Act, Rule.Rule}
 use Rattle.table.specs.Table.{rule_of, controls, searches, reads, writes}
 use Rattle.table.proofs.Laws.{every, each, of_every}
 use Rattle.turn.specs.Turn.{Tracks, TrackArea, Turn, check_turn}
-use Rattle.command.specs.declared.Plan.TheVariants.{Refuses, Works}
 use Rattle.command.proofs.Planned.{is_selected, Planned, refuses, stays, home, takes, aimed_is, permitted_or}
 use Rattle.claim_track.specs.Lasting.{Permitted}
+use Rattle.std.specs.Prelude.{Some, Ok, Err, Result}
 
 -- ---- what the table's rows of the writes have in common
 
@@ -68,18 +66,18 @@ write_row_lem w c act = ap (λ (a : Act). of_act a (rule_of c)) (sym act) ∙ ro
 
 pub record OnSelected (o : Orders) (c : ℕ) : Type 0 where
   pub spot : Spot
-  pub is : o.selection ≡ On spot
+  pub is : o.selection ≡ Some spot
   pub place : c ≡ count_first spot
 
 record Placed (s : Position) (o : Orders) (a : Aim) (k : Task) : Type 0 where
   here : k.head ≡ s.head
   on : is_selected a ≡ true → OnSelected o k.place
 
-abbrev PlanPlaced : Position → Orders → Aim → Plan → Type 0
-PlanPlaced s o a (Refuses row) = Unit {0}
-PlanPlaced s o a (Works k) = Placed s o a k
+abbrev PlanPlaced : Position → Orders → Aim → Result Task Row → Type 0
+PlanPlaced s o a (Err row) = Unit {0}
+PlanPlaced s o a (Ok k) = Placed s o a k
 
-planned_placed : (m : List Bool) (r : Rule) (s : Position) (o : Orders) (a : Aim) (p : Plan) → Planned m r s o.selection a p → PlanPlaced s o a p
+planned_placed : (m : List Bool) (r : Rule) (s : Position) (o : Orders) (a : Aim) (p : Result Task Row) → Planned m r s o.selection a p → PlanPlaced s o a p
 unfolding is_selected
 planned_placed m r s o a p (refuses row) = tt
 planned_placed m r s o a p (stays e) = record { here = refl; on = λ q. absurd (false≢true (sym (ap is_selected e) ∙ q)) }
@@ -105,31 +103,31 @@ Needs Write.R0 r o t k n = HomeSeen r.names t k
 Needs Write.CountKeyData r o t k n = CountSeen o t k n
 Needs (Write.Update key) r o t k n = CountSeen o t k n
 
-not_fails : (b : Bool) (x : Got) (row : Row) (n : Counts) → pick b x (Fails row) ≡ Sees n → (b ≡ true) × (x ≡ Sees n)
+not_fails : (b : Bool) (x : Result Counts Row) (row : Row) (n : Counts) → pick b x (Err row) ≡ Ok n → (b ≡ true) × (x ≡ Ok n)
 not_fails true x row n e = (refl, e)
 not_fails false x row n e = absurd (let z : ◌≡◌ {A = ℕ} 0 1 = cc in omega arith)
 
-all_seen : (t : Tracks) (l : List TrackArea) (x : Got) (n : Counts) → all_read t l x ≡ Sees n → x ≡ Sees n
+all_seen : (t : Tracks) (l : List TrackArea) (x : Result Counts Row) (n : Counts) → all_read t l x ≡ Ok n → x ≡ Ok n
 unfolding all_read
 all_seen t [] x n e = e
 all_seen t (a ∷ l) x n e = all_seen t l x n (not_fails (readable (t a.head) a.area) _ _ n e).1
 
-home_seen : (names : Names) (t : Tracks) (k : Task) (n : Counts) → names_home names ≡ true → gets names t k.head k.place ≡ Sees n → HomeSeen names t k
+home_seen : (names : Names) (t : Tracks) (k : Task) (n : Counts) → names_home names ≡ true → gets names t k.head k.place ≡ Ok n → HomeSeen names t k
 unfolding names_home gets areas_of on_head all_read seen_of seen_with
 home_seen Names.Nothing t k n q e = absurd (false≢true q)
 home_seen Names.HomeAddress t k n q e = ((not_fails (readable (t k.head) home_area) _ _ n e).0, refl)
 home_seen (Names.Count key body) t k n q e = absurd (false≢true q)
 
-count-seen : (names : Names) (t : Tracks) (h : Head) (c : ℕ) (n : Counts) → names_count names ≡ true → gets names t h c ≡ Sees n → n ≡ counts_at (t h) c
+count-seen : (names : Names) (t : Tracks) (h : Head) (c : ℕ) (n : Counts) → names_count names ≡ true → gets names t h c ≡ Ok n → n ≡ counts_at (t h) c
 unfolding names_count gets counts_in
 count-seen Names.Nothing t h c n q e = absurd (false≢true q)
 count-seen Names.HomeAddress t h c n q e = absurd (false≢true q)
 count-seen (Names.Count key body) t h c n q e =
-    let z : Sees (counts_at (t h) c) ≡ Sees n = all_seen t (areas_of (Names.Count key body) t h c) _ n e in
+    let z : ◌≡◌ {A = Result Counts Row} (Ok (counts_at (t h) c)) (Ok n) = all_seen t (areas_of (Names.Count key body) t h c) _ n e in
     cc
 
 module _ (r : Rule) (s : Position) (o : Orders) (t : Tracks) (k : Task) (n : Counts) (P : Placed s o r.aim k)
-    (e : gets r.names t k.head k.place ≡ Sees n) where
+    (e : gets r.names t k.head k.place ≡ Ok n) where
   counted-seen : both (is_selected r.aim) (names_count r.names) ≡ true → CountSeen o t k n
   counted-seen q =
       (P.on (first_of (is_selected r.aim) _ q), count-seen r.names t k.head k.place n (second_of (is_selected r.aim) _ q) e)
@@ -149,21 +147,21 @@ module _ (g : Shape) (t : Tracks) (s : Position) (o : Orders) (code : ℕ) (v : 
   abbrev r : Rule
   r = rule_of code
 
-  read_turn_lem : Permitted r o → (l : List TrackArea) (k : Task) → Placed s o r.aim k → (y : Got) → gets r.names t k.head k.place ≡ y
+  read_turn_lem : Permitted r o → (l : List TrackArea) (k : Task) → Placed s o r.aim k → (y : Result Counts Row) → gets r.names t k.head k.place ≡ y
       → Q (ready_turn g t s o v l (has_read code r s o k y))
   unfolding ready_turn has_read act_turn
-  read_turn_lem q l k P (Sees n) e =
+  read_turn_lem q l k P (Ok n) e =
       subst (λ (a : Act). Q (act_turn g a (sight t (job_of code r s o k n) v))) (sym act)
       (laying q k n P.here (write_seen r s o t k n P e w (write_row_lem w code act)))
-  read_turn_lem q l k P (Fails row) e = ended l row
+  read_turn_lem q l k P (Err row) e = ended l row
 
-  abbrev Done : Plan → Type 0
+  abbrev Done : Result Task Row → Type 0
   Done p = Q (ready_turn g t s o v (plan_reads t r p) (ready_by t code r s o p))
 
-  plan_turn_lem : Permitted r o → (p : Plan) → PlanPlaced s o r.aim p → Done p
+  plan_turn_lem : Permitted r o → (p : Result Task Row) → PlanPlaced s o r.aim p → Done p
   unfolding ready_turn ready_by
-  plan_turn_lem q (Refuses row) P = ended _ row
-  plan_turn_lem q (Works k) P = read_turn_lem q _ k P (gets r.names t k.head k.place) refl
+  plan_turn_lem q (Err row) P = ended _ row
+  plan_turn_lem q (Ok k) P = read_turn_lem q _ k P (gets r.names t k.head k.place) refl
 
   pub write_turn_lem : Q (command g t s o code v)
   unfolding command rule_turn ready_turn ready_by

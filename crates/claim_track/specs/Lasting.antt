@@ -2,7 +2,7 @@
 -- a soundly written track whatever lay behind the home address, which it read first; 1D, 05 and 0D leave one if the track was; Write HA leaves a readable
 -- home address and zeros from cell 7, which is not soundly written until a Write R0. Reading back returns the bytes written. What was written had its
 -- licence, and the mask let it through. A command ending in Unit Check changes no track cell.
-use Rattle.std.specs.Prelude.{ℕ, ◌+◌, ◌<◌, ◌≤◌, ◌≡◌, Bool, true, List, [], ◌∷◌, length, get_or}
+use Rattle.std.specs.Prelude.{ℕ, ◌+◌, ◌<◌, ◌≤◌, ◌≡◌, Bool, true, List, [], ◌∷◌, length, get_or, Some, Option, Result}
 use Rattle.cells.specs.Cells.{part, padded, track_cells, marker, gap}
 use Rattle.rows.specs.declared.{Row.Row}
 use Rattle.areas.specs.declared.{Area.Area}
@@ -10,14 +10,14 @@ use Rattle.areas.specs.Areas.{home_bytes, home_area, home_flag, r0_first, count_
 use Rattle.hunt.specs.declared.{Spot.Spot}
 use Rattle.hunt.specs.Hunt.{count_first}
 use Rattle.recording.specs.Recording.{count_sent}
-use Rattle.held.specs.declared.{Selection.Selection, Orders.Orders}
+use Rattle.held.specs.declared.{Orders.Orders}
 use Rattle.turn.specs.declared.{Ending.Ending}
 use Rattle.format.specs.Format.{new_counts}
 use Rattle.table.specs.declared.{Write.Write, Rule.Rule}
 use Rattle.turn.specs.Turn.{Turn, lay}
-use Rattle.command.specs.declared.{Plan.Plan}
 use Rattle.command.specs.Command.{licensed, unless_barred, key_sent}
 use Rattle.sound.specs.Sound.{flag_at, end_at, Sound}
+use Rattle.command.specs.declared.{Task.Task}
 
 -- ---- is the track left soundly written
 
@@ -72,18 +72,18 @@ ReadsBack Write.CountKeyData c v t t' = MarkedBack (flag_after (flag_at t c)) v 
 ReadsBack (Write.Update key) c v t t' = UpdateBack key v t t' c
 
 -- the record that a write takes is the one selected; Write HA and Write R0 take none
-unfoldable pub Took : Write → Selection → Spot → Type 0
+unfoldable pub Took : Write → Option Spot → Spot → Type 0
 Took Write.HomeAddress x spot = Unit {0}
 Took Write.R0 x spot = Unit {0}
-Took Write.CountKeyData x spot = x ≡ Selection.On spot
-Took (Write.Update key) x spot = x ≡ Selection.On spot
+Took Write.CountKeyData x spot = x ≡ Some spot
+Took (Write.Update key) x spot = x ≡ Some spot
 
 -- ---- "nothing changes without mask and licence"
 
 -- the command before licenses it, and the mask does not bar it
 pub record Permitted (r : Rule) (o : Orders) : Type 0 where
   pub licence : licensed r.licence o ≡ true
-  pub mask : (p : Plan) → unless_barred r.bar o.mask p ≡ p
+  pub mask : (p : Result Task Row) → unless_barred r.bar o.mask p ≡ p
 
 -- ---- the command's turn, by its row r of the table, with the bytes v sent, on the track t under the head
 

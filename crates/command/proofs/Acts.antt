@@ -13,7 +13,7 @@ use Rattle.rows.specs.declared.{Row.Row}
 use Rattle.areas.specs.declared.{Area.Area, Counts.Counts}
 use Rattle.areas.specs.Areas.{key_area}
 use Rattle.room.specs.Room.{fits}
-use Rattle.pack.specs.declared.{Head.Head, Shape.Shape, Sought.Sought}
+use Rattle.pack.specs.declared.{Head.Head, Shape.Shape, Cylinder.Cylinder}
 use Rattle.held.specs.declared.{Position.Position, Orders.Orders}
 use Rattle.turn.specs.declared.{Ending.Ending}
 use Rattle.table.specs.declared.{Control.Control, Write.Write, Act.Act}
@@ -21,6 +21,7 @@ use Rattle.turn.specs.Turn.{TrackArea, Piece, Moves, None, Gives, Takes, given, 
 use Rattle.command.specs.declared.{Task.Task, Job.Job}
 use Rattle.command.specs.Command.{Sight, fail_turn, end_turn_at, end_turn, ending_of, no_op_turn, sense_turn, addressed, arrival_turn, seek_turn, masked_turn, mask_turn, space_turn, field_turn, search_turn, read_turn, home_turn, new_turn, r0_turn, record_turn, piece, over_piece, key_sent, update_turn, control_turn, write_turn, act_turn}
 use Rattle.command.specs.Frame.{LaysUnder, gives_bytes}
+use Rattle.std.specs.Prelude.{Ok, Err, Result}
 
 -- only a turn that takes bytes lays cells, and only one that ends without Unit Check
 abbrev pub LaysBy : Moves → List Piece → Type 0
@@ -88,10 +89,10 @@ module _ (x : Sight) where
 
   -- ---- controls
 
-  arrives_keeps : (a : Act) (y : Sought) → At a (arrival_turn x y)
+  arrives_keeps : (a : Act) (y : Result (Cylinder × Head) Row) → At a (arrival_turn x y)
   unfolding arrival_turn given
-  arrives_keeps a (Sought.To c h) = empty_keeps a _ _ _ _ _ _ refl
-  arrives_keeps a (Sought.Fails row) = fails_keeps a row
+  arrives_keeps a (Ok (c, h)) = empty_keeps a _ _ _ _ _ _ refl
+  arrives_keeps a (Err row) = fails_keeps a row
 
   masks_keeps : (a : Act) (byte : ℕ) → At a (mask_turn x byte)
   unfolding mask_turn masked_turn given

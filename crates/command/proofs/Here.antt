@@ -9,21 +9,22 @@ use Rattle.rows.specs.declared.{Row.Row}
 use Rattle.areas.specs.declared.{Area.Area}
 use Rattle.areas.specs.Areas.{area_cells, home_area, count_area, read_count}
 use Rattle.pack.specs.declared.{Head.Head, Shape.Shape}
-use Rattle.held.specs.declared.{Selection.Selection, Position.Position, Orders.Orders}
+use Rattle.held.specs.declared.{Position.Position, Orders.Orders}
 use Rattle.command.specs.Command.{named_by, Marks, marks_of, licensed, to_next, to_served, aimed, unless_barred, plan_of, on_head, areas_of, plan_reads, rule_turn, command}
 use Rattle.table.specs.declared.{Aim.Aim, Names.Names, Rule.Rule}
 use Rattle.table.specs.Table.{rule_of}
 use Rattle.turn.specs.Turn.{Tracks, alone, TrackArea}
-use Rattle.command.specs.declared.{Plan.Plan}
-use Rattle.command.specs.declared.Plan.TheVariants.{Refuses, Works}
 use Rattle.command.proofs.Planned.{Planned, refuses, stays, home, takes, plan_is}
 use Rattle.command.specs.Frame.{AllSame, plan_head, ReadsUnder, LaysUnder}
 use Rattle.command.proofs.Turns.{plan_turn, command-reads, command_lays}
 use Rattle.command.proofs.Kept.{Agrees, plan_kept}
+use Rattle.std.specs.Prelude.{Err, Ok, Result, Option}
+use Rattle.command.specs.declared.{Task.Task}
+use Rattle.hunt.specs.declared.{Spot.Spot}
 
 -- ---- a plan's head
 
-planned_here : (m : List Bool) (r : Rule) (s : Position) (x : Selection) (a : Aim) (p : Plan) → Planned m r s x a p → plan_head s p ≡ s.head
+planned_here : (m : List Bool) (r : Rule) (s : Position) (x : Option Spot) (a : Aim) (p : Result Task Row) → Planned m r s x a p → plan_head s p ≡ s.head
 unfolding plan_head
 planned_here m r s x a p (refuses row) = refl
 planned_here m r s x a p (stays e) = refl
@@ -49,7 +50,7 @@ aimed-alone r t s o Aim.Selected = refl
 plans_alone : (r : Rule) (t : Tracks) (s : Position) (o : Orders) → plan_of r (marks_of t) s o ≡ plan_of r (marks_of (alone (t s.head))) s o
 unfolding plan_of
 plans_alone r t s o =
-    ap (λ (x : Plan). pick (licensed r.licence o) (unless_barred r.bar o.mask x) (Refuses Row.WrongBefore)) (aimed-alone r t s o r.aim)
+    ap (λ (x : Result Task Row). pick (licensed r.licence o) (unless_barred r.bar o.mask x) (Err Row.WrongBefore)) (aimed-alone r t s o r.aim)
 
 -- ---- what a plan reads is under its head
 
@@ -64,10 +65,10 @@ areas_under Names.Nothing t h c = tt
 areas_under Names.HomeAddress t h c = lies-under h (home_area ∷ [])
 areas_under (Names.Count key body) t h c = lies-under h (count_area c ∷ named_by c key body (read_count (t h) c))
 
-plan_under : (t : Tracks) (s : Position) (r : Rule) (p : Plan) → ReadsUnder (plan_head s p) (plan_reads t r p)
+plan_under : (t : Tracks) (s : Position) (r : Rule) (p : Result Task Row) → ReadsUnder (plan_head s p) (plan_reads t r p)
 unfolding plan_head plan_reads
-plan_under t s r (Refuses row) = tt
-plan_under t s r (Works k) = areas_under r.names t k.head k.place
+plan_under t s r (Err row) = tt
+plan_under t s r (Ok k) = areas_under r.names t k.head k.place
 
 -- such areas are the same on that track alone
 under_same : (t : Tracks) (h : Head) (l : List TrackArea) → ReadsUnder h l → AllSame t (alone (t h)) l
@@ -91,7 +92,7 @@ module _ (g : Shape) (t : Tracks) (s : Position) (o : Orders) (code : ℕ) (v : 
   unfolding command rule_turn
   command_here =
       let t' : Tracks = alone (t s.head) in
-      let p : Plan = plan_of (rule_of code) (marks_of t) s o in
+      let p : Result Task Row = plan_of (rule_of code) (marks_of t) s o in
       plan_kept g t t' s o code v (rule_of code) p
       (subst (Agrees t t' (rule_of code).act) (sym (plans_here (rule_of code) (marks_of t) s o)) (record { marked = refl; over = λ c n. refl }))
       (subst (AllSame t t') (command-reads g t s o code v) (under_same t s.head (command g t s o code v).reads reads_here))

@@ -8,19 +8,19 @@ use lib.ListN.{take}
 use Rattle.table.specs.Table.{is_write, rule_of}
 use Rattle.cells.specs.Cells.{pick, both, bytes_of, marks}
 use Rattle.house_check.specs.Check.{good_cells}
-use Rattle.areas.specs.declared.{Area.Area, Counts.Counts, CountRead.CountRead}
+use Rattle.areas.specs.declared.{Area.Area, Counts.Counts}
 use Rattle.areas.specs.Areas.{readable, area_bytes, row_of, count_area, counts_of, counts_at, read_count}
 use Rattle.pack.specs.declared.{Head.Head, Shape.Shape}
 use Rattle.held.specs.declared.{Position.Position, Orders.Orders}
-use Rattle.command.specs.declared.{Got.Got, Task.Task, Plan.Plan, Job.Job}
-use Rattle.command.specs.declared.Got.TheVariants.{Sees, Fails}
+use Rattle.command.specs.declared.{Task.Task, Job.Job}
 use Rattle.command.specs.Command.{named_by, seen_with, marks_of, plan_of, on_head, areas_of, all_read, counts_in, gets, seen_of, goes_over, all_recorded, areas_read, sight, act_turn, job_of, has_read, ready_by, plan_reads, ready_turn, rule_turn, command}
 use Rattle.format.specs.Format.{recorded}
 use Rattle.table.specs.declared.{Names.Names, Act.Act, Rule.Rule}
 use Rattle.turn.specs.Turn.{Tracks, TrackArea, check_turn}
-use Rattle.command.specs.declared.Plan.TheVariants.{Refuses, Works}
 use Rattle.command.specs.Frame.{Same, AllSame, plan_head}
 use Rattle.command.proofs.Turns.{plan_turn, command-reads}
+use Rattle.std.specs.Prelude.{Some, None, Ok, Err, Result, Option}
+use Rattle.rows.specs.declared.{Row.Row}
 
 module _ (t t' : Tracks) where
   -- what else an act sees of the track under a head: the markers, and whether the areas that it goes over are byte cells
@@ -40,11 +40,11 @@ module _ (t t' : Tracks) where
 
   -- ---- a list of them
 
-  list_kept : (l : List TrackArea) (x : Got) → AllSame t t' l → all_read t l x ≡ all_read t' l x
+  list_kept : (l : List TrackArea) (x : Result Counts Row) → AllSame t t' l → all_read t l x ≡ all_read t' l x
   unfolding all_read
   list_kept [] x e = refl
   list_kept (a ∷ l) x e =
-      ap₂ (λ (b : Bool) (y : Got). pick b y (Fails (row_of a.area.part))) (read_kept a e.0) (list_kept l x e.1)
+      ap₂ (λ (b : Bool) (y : Result Counts Row). pick b y (Err (row_of a.area.part))) (read_kept a e.0) (list_kept l x e.1)
 
   saw_kept : (l : List TrackArea) → AllSame t t' l → seen_of t l ≡ seen_of t' l
   unfolding seen_of
@@ -76,14 +76,14 @@ module _ (t t' : Tracks) where
 
     pub count_kept : Same t t' count_there → read_count (t h) c ≡ read_count (t' h) c
     unfolding read_count
-    count_kept e = ap₂ (λ (b : Bool) (n : Counts). pick b (CountRead.Reads n) CountRead.Fails) (read_kept count_there e) (counts_kept e)
+    count_kept e = ap₂ (λ (b : Bool) (n : Counts). pick b (Some n) None) (read_kept count_there e) (counts_kept e)
 
     -- the same are named, and the same counts stand there
     areas_kept : (n : Names) → AllSame t t' (areas_of n t h c) → areas_of n t h c ≡ areas_of n t' h c
     unfolding areas_of on_head
     areas_kept Names.Nothing e = refl
     areas_kept Names.HomeAddress e = refl
-    areas_kept (Names.Count key body) e = ap (λ (x : CountRead). on_head h (count_area c ∷ named_by c key body x)) (count_kept e.0)
+    areas_kept (Names.Count key body) e = ap (λ (x : Option Counts). on_head h (count_area c ∷ named_by c key body x)) (count_kept e.0)
 
     in_kept : (n : Names) → AllSame t t' (areas_of n t h c) → counts_in n t h c ≡ counts_in n t' h c
     unfolding areas_of on_head counts_in
@@ -94,8 +94,8 @@ module _ (t t' : Tracks) where
     gets_kept : (n : Names) → AllSame t t' (areas_of n t h c) → gets n t h c ≡ gets n t' h c
     unfolding gets
     gets_kept n e =
-        list_kept (areas_of n t h c) (Sees (counts_in n t h c)) e
-        ∙ ap₂ (λ (l : List TrackArea) (y : Counts). all_read t' l (Sees y)) (areas_kept n e) (in_kept n e)
+        list_kept (areas_of n t h c) (Ok (counts_in n t h c)) e
+        ∙ ap₂ (λ (l : List TrackArea) (y : Counts). all_read t' l (Ok y)) (areas_kept n e) (in_kept n e)
 
 -- ---- a plan: all that it sees is under its head
 
@@ -107,20 +107,20 @@ module _ (g : Shape) (t t' : Tracks) (s : Position) (o : Orders) (code : ℕ) (v
       let S = saw_kept t t' _ e ∙ ap (seen_of t') A in
       λ i. record { job = j; sent = v; reads = A i; seen = S i; marks = k.marked i; recorded = k.over j.task.place j.counts i }
 
-  got_kept : (r : Rule) (k : Task) (x : Got) → Agrees t t' r.act k.head → AllSame t t' (areas_of r.names t k.head k.place)
+  got_kept : (r : Rule) (k : Task) (x : Result Counts Row) → Agrees t t' r.act k.head → AllSame t t' (areas_of r.names t k.head k.place)
       → ready_turn g t s o v (areas_of r.names t k.head k.place) (has_read code r s o k x)
       ≡ ready_turn g t' s o v (areas_of r.names t' k.head k.place) (has_read code r s o k x)
   unfolding has_read ready_turn areas_read
-  got_kept r k (Sees n) a e = ap (act_turn g r.act) (sight-kept (job_of code r s o k n) a e)
-  got_kept r k (Fails row) a e = ap (λ (l : List TrackArea). check_turn s o l row) (areas_kept t t' k.head k.place r.names e)
+  got_kept r k (Ok n) a e = ap (act_turn g r.act) (sight-kept (job_of code r s o k n) a e)
+  got_kept r k (Err row) a e = ap (λ (l : List TrackArea). check_turn s o l row) (areas_kept t t' k.head k.place r.names e)
 
-  pub plan_kept : (r : Rule) (p : Plan) → Agrees t t' r.act (plan_head s p) → AllSame t t' (plan_reads t r p)
+  pub plan_kept : (r : Rule) (p : Result Task Row) → Agrees t t' r.act (plan_head s p) → AllSame t t' (plan_reads t r p)
       → plan_turn g t s o code v r p ≡ plan_turn g t' s o code v r p
   unfolding plan_head plan_reads ready_by ready_turn
-  plan_kept r (Refuses row) a e = refl
-  plan_kept r (Works k) a e =
+  plan_kept r (Err row) a e = refl
+  plan_kept r (Ok k) a e =
       got_kept r k _ a e
-      ∙ ap (λ (x : Got). ready_turn g t' s o v (areas_of r.names t' k.head k.place) (has_read code r s o k x))
+      ∙ ap (λ (x : Result Counts Row). ready_turn g t' s o v (areas_of r.names t' k.head k.place) (has_read code r s o k x))
       (gets_kept t t' k.head k.place r.names e)
 
   -- ---- a command

@@ -11,15 +11,14 @@ use Rattle.cells.specs.Cells.{pick, both}
 use Rattle.cells.proofs.Tests.{pick_all}
 use Rattle.rows.specs.declared.{Row.Row}
 use Rattle.table.specs.Table.{bars_seek, bars_write}
-use Rattle.hunt.specs.declared.{Spot.Spot, Next.Next}
+use Rattle.hunt.specs.declared.{Spot.Spot}
 use Rattle.hunt.specs.Hunt.{spot_fits, count_first}
 use Rattle.hunt.proofs.Inside.{NextOn, next_on, id_on}
-use Rattle.held.specs.declared.{Selection.Selection, Position.Position, Orders.Orders}
-use Rattle.held.specs.declared.Selection.TheVariants.{Nothing, On}
+use Rattle.held.specs.declared.{Position.Position, Orders.Orders}
 use Rattle.table.specs.declared.{Bar.Bar, Aim.Aim, Rule.Rule}
-use Rattle.command.specs.declared.{Plan.Plan}
-use Rattle.command.specs.declared.Plan.TheVariants.{Refuses, Works}
 use Rattle.command.specs.Command.{Marks, licensed, task, home_place, most_tally, SelectedOn, tallies, on_record, on_next, on_selected, to_next, to_served, aimed, unless_barred, plan_of}
+use Rattle.std.specs.Prelude.{Some, None, Err, Ok, Option, Result}
+use Rattle.command.specs.declared.{Task.Task}
 
 -- ---- by its aim
 
@@ -54,49 +53,49 @@ is_selected Aim.NextForKey = false
 is_selected Aim.Selected = true
 
 -- the record that a command takes: R0 or the one selected, x, if that is its aim; one of the track, if x is
-pub record Taken (m : List Bool) (x : Selection) (a : Aim) (spot : Spot) : Type 0 where
+pub record Taken (m : List Bool) (x : Option Spot) (a : Aim) (spot : Spot) : Type 0 where
   pub fits : SelectedOn m x → spot_fits m spot ≡ true
   pub r0 : is_r0 a ≡ true → spot ≡ Spot.R0
-  pub selected : is_selected a ≡ true → x ≡ On spot
+  pub selected : is_selected a ≡ true → x ≡ Some spot
 
 -- ---- the plans
 
-pub data Planned (m : List Bool) (r : Rule) (s : Position) (x : Selection) (a : Aim) : Plan → Type 0 where
-  refuses : (row : Row) → Planned m r s x a (Refuses row)
-  stays : a ≡ Aim.Stays → Planned m r s x a (Works (task s.head s.place Nothing 0))
-  home : a ≡ Aim.HomeAddress → Planned m r s x a (Works (task s.head home_place Nothing 0))
+pub data Planned (m : List Bool) (r : Rule) (s : Position) (x : Option Spot) (a : Aim) : Result Task Row → Type 0 where
+  refuses : (row : Row) → Planned m r s x a (Err row)
+  stays : a ≡ Aim.Stays → Planned m r s x a (Ok (task s.head s.place None 0))
+  home : a ≡ Aim.HomeAddress → Planned m r s x a (Ok (task s.head home_place None 0))
   takes : (spot : Spot) → Taken m x a spot → (n : ℕ) → n ≤ most_tally
-      → Planned m r s x a (Works (task s.head (count_first spot) (pick r.selects (On spot) Nothing) n))
+      → Planned m r s x a (Ok (task s.head (count_first spot) (pick r.selects (Some spot) None) n))
 
 module _ (m : Marks) (r : Rule) (s : Position) (o : Orders) where
-  abbrev Is : Selection → Aim → Plan → Type 0
+  abbrev Is : Option Spot → Aim → Result Task Row → Type 0
   Is x a p = Planned (m s.head) r s x a p
 
-  record_is : (x : Selection) (a : Aim) (spot : Spot) (n : ℕ) → Taken (m s.head) x a spot → Is x a (on_record r o s.head spot n)
+  record_is : (x : Option Spot) (a : Aim) (spot : Spot) (n : ℕ) → Taken (m s.head) x a spot → Is x a (on_record r o s.head spot n)
   unfolding on_record
   record_is x a spot n f = go (tallies r.act) (ltb most_tally (o.tally + n)) refl
     where
       go : (b c : Bool) → ltb most_tally (o.tally + n) ≡ c → Is x a
-          (pick (both b c) (Refuses Row.SecondIndex) (Works (task s.head (count_first spot) (pick r.selects (On spot) Nothing) (pick b (o.tally + n) 0))))
+          (pick (both b c) (Err Row.SecondIndex) (Ok (task s.head (count_first spot) (pick r.selects (Some spot) None) (pick b (o.tally + n) 0))))
       go true true e = refuses _
       go true false e = takes spot f (o.tally + n) (omega (arith, ltb-false most_tally (o.tally + n) e))
       go false c e = takes spot f 0 (omega arith)
 
   module _ (a : Aim) (z : is_r0 a ≡ false) where
-    selected_is : (x : Selection) (other : Plan) → Is x a other → Is x a (on_selected r o s.head x other)
+    selected_is : (x : Option Spot) (other : Result Task Row) → Is x a other → Is x a (on_selected r o s.head x other)
     unfolding on_selected SelectedOn
-    selected_is Nothing other k = k
-    selected_is (On spot) other k =
-        record_is (On spot) a spot 0 (record { fits = λ f. f; r0 = λ e. absurd (false≢true (sym z ∙ e)); selected = λ e. refl })
+    selected_is None other k = k
+    selected_is (Some spot) other k =
+        record_is (Some spot) a spot 0 (record { fits = λ f. f; r0 = λ e. absurd (false≢true (sym z ∙ e)); selected = λ e. refl })
 
     module _ (q : is_selected a ≡ false) where
-      next_is : (x : Selection) (y : Next) → NextOn (m s.head) y → Is x a (on_next r o s.head y)
+      next_is : (x : Option Spot) (y : Option (Spot × ℕ)) → NextOn (m s.head) y → Is x a (on_next r o s.head y)
       unfolding on_next
-      next_is x (Next.ComesTo spot n) f =
+      next_is x (Some (spot, n)) f =
           record_is x a spot n (record { fits = λ i. f; r0 = λ e. absurd (false≢true (sym z ∙ e)); selected = λ e. absurd (false≢true (sym q ∙ e)) })
-      next_is x Next.NoMarker f = refuses _
+      next_is x None f = refuses _
 
-      to_next_is : (x : Selection) → Is x a (to_next r m s o)
+      to_next_is : (x : Option Spot) → Is x a (to_next r m s o)
       unfolding to_next
       to_next_is x = next_is x _ (next_on (m s.head) s.place)
 
@@ -117,23 +116,23 @@ module _ (m : Marks) (r : Rule) (s : Position) (o : Orders) where
 
 -- ---- refused, or licensed, not barred, and where it aims
 
-module _ (P : Plan → Type 0) (no : (row : Row) → P (Refuses row)) where
-  or_refused : (b : Bool) (row : Row) (x : Plan) → (((p : Plan) → pick b (Refuses row) p ≡ p) → P x) → P (pick b (Refuses row) x)
+module _ (P : Result Task Row → Type 0) (no : (row : Row) → P (Err row)) where
+  or_refused : (b : Bool) (row : Row) (x : Result Task Row) → (((p : Result Task Row) → pick b (Err row) p ≡ p) → P x) → P (pick b (Err row) x)
   or_refused true row x f = no row
   or_refused false row x f = f (λ p. refl)
 
-  or_barred : (b : Bar) (n : ℕ) (x : Plan) → (((p : Plan) → unless_barred b n p ≡ p) → P x) → P (unless_barred b n x)
+  or_barred : (b : Bar) (n : ℕ) (x : Result Task Row) → (((p : Result Task Row) → unless_barred b n p ≡ p) → P x) → P (unless_barred b n x)
   unfolding unless_barred
   or_barred Bar.Nothing n x f = f (λ p. refl)
   or_barred (Bar.Seeks k) n x f = or_refused (bars_seek n k) Row.SeekBarred x f
   or_barred (Bar.Writes k) n x f = or_refused (bars_write n k) Row.WriteBarred x f
 
   pub permitted_or : (r : Rule) (m : Marks) (s : Position) (o : Orders)
-      → (licensed r.licence o ≡ true → ((p : Plan) → unless_barred r.bar o.mask p ≡ p) → P (aimed r m s o r.aim)) → P (plan_of r m s o)
+      → (licensed r.licence o ≡ true → ((p : Result Task Row) → unless_barred r.bar o.mask p ≡ p) → P (aimed r m s o r.aim)) → P (plan_of r m s o)
   unfolding plan_of
   permitted_or r m s o f = go (licensed r.licence o) refl
     where
-      go : (b : Bool) → licensed r.licence o ≡ b → P (pick b (unless_barred r.bar o.mask (aimed r m s o r.aim)) (Refuses Row.WrongBefore))
+      go : (b : Bool) → licensed r.licence o ≡ b → P (pick b (unless_barred r.bar o.mask (aimed r m s o r.aim)) (Err Row.WrongBefore))
       go true e = or_barred r.bar o.mask _ (f e)
       go false e = no Row.WrongBefore
 

@@ -10,14 +10,14 @@ use Rattle.cells.specs.Cells.{pick, either, track_cells, marks}
 use Rattle.hunt.specs.declared.{Spot.Spot}
 use Rattle.hunt.specs.Hunt.{WholeTrack, spot_fits}
 use Rattle.hunt.proofs.Inside.{spot_in}
-use Rattle.held.specs.declared.{Selection.Selection, Position.Position, Orders.Orders}
-use Rattle.held.specs.declared.Selection.TheVariants.{Nothing, On}
+use Rattle.held.specs.declared.{Position.Position, Orders.Orders}
 use Rattle.table.specs.declared.{Aim.Aim, Rule.Rule}
 use Rattle.turn.specs.Turn.{Tracks}
-use Rattle.command.specs.declared.{Task.Task, Plan.Plan}
-use Rattle.command.specs.declared.Plan.TheVariants.{Refuses, Works}
+use Rattle.command.specs.declared.{Task.Task}
 use Rattle.command.specs.Command.{Marks, marks_of, most_tally, SelectedOn, plan_of}
 use Rattle.command.proofs.Planned.{takes_record, is_r0, Taken, Planned, refuses, stays, home, takes, plan_is}
+use Rattle.std.specs.Prelude.{None, Some, Err, Ok, Option, Result}
+use Rattle.rows.specs.declared.{Row.Row}
 
 -- ---- what holds of a plan
 
@@ -26,9 +26,9 @@ unfoldable pub selects_one : Aim → Bool → Bool
 selects_one a b = either (takes_record a) (not b)
 
 -- a record of the track left selected, by a command that selects
-abbrev pub Leaves : List Bool → Bool → Selection → Type 0
-Leaves m selects Nothing = selects ≡ false
-Leaves m selects (On spot) = spot_fits m spot ≡ true
+abbrev pub Leaves : List Bool → Bool → Option Spot → Type 0
+Leaves m selects None = selects ≡ false
+Leaves m selects (Some spot) = spot_fits m spot ≡ true
 
 pub record TaskOn (m : List Bool) (r : Rule) (s : Position) (k : Task) : Type 0 where
   pub here : k.head ≡ s.head
@@ -36,20 +36,20 @@ pub record TaskOn (m : List Bool) (r : Rule) (s : Position) (k : Task) : Type 0 
   pub tally : k.tally ≤ most_tally
   pub leaves : Leaves m r.selects k.selection
 
-abbrev pub PlanOn : List Bool → Rule → Position → Plan → Type 0
-PlanOn m r s (Refuses row) = Unit {0}
-PlanOn m r s (Works k) = TaskOn m r s k
+abbrev pub PlanOn : List Bool → Rule → Position → Result Task Row → Type 0
+PlanOn m r s (Err row) = Unit {0}
+PlanOn m r s (Ok k) = TaskOn m r s k
 
 module _ (tr : Tracks) (r : Rule) (s : Position) (o : Orders) (wh : WholeTrack (tr s.head)) (sel : SelectedOn (marks (tr s.head)) o.selection)
     (p : s.place ≤ track_cells) (e : selects_one r.aim r.selects ≡ true) where
   abbrev t : List ℕ
   t = tr s.head
 
-  picked : (b : Bool) (spot : Spot) → spot_fits (marks t) spot ≡ true → Leaves (marks t) b (pick b (On spot) Nothing)
+  picked : (b : Bool) (spot : Spot) → spot_fits (marks t) spot ≡ true → Leaves (marks t) b (pick b (Some spot) None)
   picked true spot h = h
   picked false spot h = refl
 
-  planned_on : (x : Plan) → Planned (marks t) r s o.selection r.aim x → PlanOn (marks t) r s x
+  planned_on : (x : Result Task Row) → Planned (marks t) r s o.selection r.aim x → PlanOn (marks t) r s x
   unfolding selects_one takes_record
   planned_on x (refuses row) = tt
   planned_on x (stays a) = record { here = refl; place = p; tally = omega arith; leaves = not-true r.selects (sym (ap (λ (b : Aim). selects_one b r.selects) a) ∙ e) }
@@ -62,26 +62,26 @@ module _ (tr : Tracks) (r : Rule) (s : Position) (o : Orders) (wh : WholeTrack (
 
 -- ---- a command that selects none, or takes R0, leaves no marker selected
 
-abbrev pub NoMarker : Selection → Type 0
-NoMarker Nothing = Unit {0}
-NoMarker (On Spot.R0) = Unit {0}
-NoMarker (On (Spot.Marker p)) = ⊥
+abbrev pub NoMarker : Option Spot → Type 0
+NoMarker None = Unit {0}
+NoMarker (Some Spot.R0) = Unit {0}
+NoMarker (Some (Spot.Marker p)) = ⊥
 
-abbrev pub PlanFree : Plan → Type 0
-PlanFree (Refuses row) = Unit {0}
-PlanFree (Works k) = NoMarker k.selection
+abbrev pub PlanFree : Result Task Row → Type 0
+PlanFree (Err row) = Unit {0}
+PlanFree (Ok k) = NoMarker k.selection
 
 module _ (r : Rule) (m : Marks) (s : Position) (o : Orders) where
-  pick_free : (b : Bool) (spot : Spot) → b ≡ false → NoMarker (pick b (On spot) Nothing)
+  pick_free : (b : Bool) (spot : Spot) → b ≡ false → NoMarker (pick b (Some spot) None)
   pick_free true spot e = absurd (false≢true (sym e))
   pick_free false spot e = tt
 
-  r0_chosen : (b : Bool) → NoMarker (pick b (On Spot.R0) Nothing)
+  r0_chosen : (b : Bool) → NoMarker (pick b (Some Spot.R0) None)
   r0_chosen true = tt
   r0_chosen false = tt
 
-  planned_free : ((spot : Spot) → Taken (m s.head) o.selection r.aim spot → NoMarker (pick r.selects (On spot) Nothing))
-      → (x : Plan) → Planned (m s.head) r s o.selection r.aim x → PlanFree x
+  planned_free : ((spot : Spot) → Taken (m s.head) o.selection r.aim spot → NoMarker (pick r.selects (Some spot) None))
+      → (x : Result Task Row) → Planned (m s.head) r s o.selection r.aim x → PlanFree x
   planned_free f x (refuses row) = tt
   planned_free f x (stays a) = tt
   planned_free f x (home a) = tt
@@ -92,4 +92,4 @@ module _ (r : Rule) (m : Marks) (s : Position) (o : Orders) where
 
   pub r0_free : is_r0 r.aim ≡ true → PlanFree (plan_of r m s o)
   r0_free e =
-      planned_free (λ spot k. subst (λ (y : Spot). NoMarker (pick r.selects (On y) Nothing)) (sym (k.r0 e)) (r0_chosen r.selects)) _ (plan_is m r s o)
+      planned_free (λ spot k. subst (λ (y : Spot). NoMarker (pick r.selects (Some y) None)) (sym (k.r0 e)) (r0_chosen r.selects)) _ (plan_is m r s o)

@@ -13,15 +13,14 @@ use lib.Dec.{ltb}
 use borrow.Author.Tests.{ltb-true, ltb-false, lt-ltb}
 use Rattle.cells.specs.Cells.{pick, both, part, bytes_of}
 use Rattle.rows.specs.declared.{Row.Row}
-use Rattle.areas.specs.declared.{Area.Area, Counts.Counts, CountRead.CountRead}
+use Rattle.areas.specs.declared.{Area.Area, Counts.Counts}
 use Rattle.areas.specs.Areas.{area_cells, home_area, count_area, key_area, data_area, readable, area_bytes, counts_at, read_count}
 use Rattle.areas.proofs.Laws.{off_track}
-use Rattle.command.specs.declared.{Got.Got}
-use Rattle.command.specs.declared.Got.TheVariants.{Sees, Fails}
 use Rattle.pack.specs.declared.{Head.Head}
 use Rattle.table.specs.declared.{Names.Names}
 use Rattle.turn.specs.Turn.{Tracks, TrackArea}
 use Rattle.command.specs.Command.{area_if, named, named_by, on_head, areas_of, all_read, counts_in, gets, Seen, seen, seen_with, seen_of}
+use Rattle.std.specs.Prelude.{Some, None, Ok, Err, Result, Option}
 
 -- an area's bytes are those of its first cells
 pub area-bytes : (t : List ℕ) (a : Area) → area_bytes t a ≡ bytes_of (part t a.first a.bytes)
@@ -39,31 +38,31 @@ lies t a r = go (dec_lt (length t) (a.first + a.bytes + 2))
 
 -- ---- what was got although an area stands before it
 
-was_read : (b : Bool) (x : Got) (row : Row) (n : Counts) → pick b x (Fails row) ≡ Sees n → (b ≡ true) × (x ≡ Sees n)
+was_read : (b : Bool) (x : Result Counts Row) (row : Row) (n : Counts) → pick b x (Err row) ≡ Ok n → (b ≡ true) × (x ≡ Ok n)
 was_read true x row n e = (refl, e)
 was_read false x row n e = absurd (let z : ◌≡◌ {A = ℕ} 0 1 = cc in omega arith)
 
-sees_same : (m n : Counts) → Sees m ≡ Sees n → m ≡ n
+sees_same : (m n : Counts) → ◌≡◌ {A = Result Counts Row} (Ok m) (Ok n) → m ≡ n
 sees_same m n e = cc
 
-all_same : (t : Tracks) (l : List TrackArea) (m n : Counts) → all_read t l (Sees m) ≡ Sees n → m ≡ n
+all_same : (t : Tracks) (l : List TrackArea) (m n : Counts) → all_read t l (Ok m) ≡ Ok n → m ≡ n
 unfolding all_read
 all_same t [] m n e = sees_same m n e
 all_same t (a ∷ l) m n e = all_same t l m n (was_read (readable (t a.head) a.area) _ _ n e).1
 
-if_read : (t : Tracks) (h : Head) (b : Bool) (a : Area) (l : List Area) (x : Got) (n : Counts) → all_read t (on_head h (area_if b a ++ l)) x ≡ Sees n
-    → (b ≡ true → readable (t h) a ≡ true) × (all_read t (on_head h l) x ≡ Sees n)
+if_read : (t : Tracks) (h : Head) (b : Bool) (a : Area) (l : List Area) (x : Result Counts Row) (n : Counts) → all_read t (on_head h (area_if b a ++ l)) x ≡ Ok n
+    → (b ≡ true → readable (t h) a ≡ true) × (all_read t (on_head h l) x ≡ Ok n)
 unfolding all_read area_if on_head
 if_read t h true a l x n e = let r = was_read (readable (t h) a) (all_read t (on_head h l) x) _ n e in ((λ _. r.0), r.1)
 if_read t h false a l x n e = ((λ q. absurd (false≢true q)), e)
 
 -- ---- a record
 
-module _ (tr : Tracks) (h : Head) (c : ℕ) (key body : Bool) (n : Counts) (e : gets (Names.Count key body) tr h c ≡ Sees n) where
+module _ (tr : Tracks) (h : Head) (c : ℕ) (key body : Bool) (n : Counts) (e : gets (Names.Count key body) tr h c ≡ Ok n) where
   abbrev t : List ℕ
   t = tr h
 
-  all_read_lem : (readable t (count_area c) ≡ true) × (all_read tr (on_head h (named_by c key body (read_count t c))) (Sees (counts_at t c)) ≡ Sees n)
+  all_read_lem : (readable t (count_area c) ≡ true) × (all_read tr (on_head h (named_by c key body (read_count t c))) (Ok (counts_at t c)) ≡ Ok n)
   unfolding gets areas_of on_head counts_in all_read
   all_read_lem = was_read (readable t (count_area c)) _ _ n e
 
@@ -76,21 +75,21 @@ module _ (tr : Tracks) (h : Head) (c : ℕ) (key body : Bool) (n : Counts) (e : 
   pub record_counts : n ≡ counts_at t c
   record_counts = sym (all_same tr _ (counts_at t c) n all_read_lem.1)
 
-  count-reads : read_count t c ≡ CountRead.Reads n
+  count-reads : read_count t c ≡ Some n
   unfolding read_count
-  count-reads = ap (λ (b : Bool). pick b (CountRead.Reads (counts_at t c)) CountRead.Fails) record_readable ∙ ap CountRead.Reads (sym record_counts)
+  count-reads = ap (λ (b : Bool). pick b (Some (counts_at t c)) None) record_readable ∙ ap Some (sym record_counts)
 
-  named_read : all_read tr (on_head h (named c key body n)) (Sees n) ≡ Sees n
+  named_read : all_read tr (on_head h (named c key body n)) (Ok n) ≡ Ok n
   unfolding named_by
-  named_read = (λ i. all_read tr (on_head h (named_by c key body (sym count-reads i))) (Sees (record_counts i))) ∙ all_read_lem.1
+  named_read = (λ i. all_read tr (on_head h (named_by c key body (sym count-reads i))) (Ok (record_counts i))) ∙ all_read_lem.1
 
   each_read : (both key (ltb 0 n.kl) ≡ true → readable t (key_area c n) ≡ true) × (both body (ltb 0 n.dl) ≡ true → readable t (data_area c n) ≡ true)
   unfolding named
   each_read =
       let d = area_if (both body (ltb 0 n.dl)) (data_area c n) in
-      let r = if_read tr h (both key (ltb 0 n.kl)) (key_area c n) d (Sees n) n named_read in
-      let last : all_read tr (on_head h (d ++ [])) (Sees n) ≡ Sees n = ap (λ (l : List Area). all_read tr (on_head h l) (Sees n)) (append-nil d) ∙ r.1 in
-      (r.0, (if_read tr h (both body (ltb 0 n.dl)) (data_area c n) [] (Sees n) n last).0)
+      let r = if_read tr h (both key (ltb 0 n.kl)) (key_area c n) d (Ok n) n named_read in
+      let last : all_read tr (on_head h (d ++ [])) (Ok n) ≡ Ok n = ap (λ (l : List Area). all_read tr (on_head h l) (Ok n)) (append-nil d) ∙ r.1 in
+      (r.0, (if_read tr h (both body (ltb 0 n.dl)) (data_area c n) [] (Ok n) n last).0)
 
   -- the key and the data that were read lie on the track
   pub key_lies : key ≡ true → 0 < n.kl → (key_area c n).first + n.kl ≤ length t
@@ -115,7 +114,7 @@ module _ (tr : Tracks) (h : Head) (c : ℕ) (key body : Bool) (n : Counts) (e : 
       ≡ seen [] (pick (both key (ltb 0 n.kl)) (area_bytes t (key_area c n)) []) (pick (both body (ltb 0 n.dl)) (area_bytes t (data_area c n)) [])
   unfolding areas_of on_head seen_of seen_with named_by named
   record_seen =
-      ap (λ (r : CountRead). seen_of tr (on_head h (named_by c key body r))) count-reads
+      ap (λ (r : Option Counts). seen_of tr (on_head h (named_by c key body r))) count-reads
       ∙ saw_two (both key (ltb 0 n.kl)) (both body (ltb 0 n.dl))
 
   -- the bytes of an area that has so many bytes, if there are any
@@ -143,6 +142,6 @@ pub home_seen : (t : Tracks) (h : Head) (c : ℕ) → (seen_of t (areas_of Names
 unfolding areas_of on_head seen_of seen_with
 home_seen t h c = area-bytes (t h) home_area
 
-pub home_lies : (t : Tracks) (h : Head) (c : ℕ) (n : Counts) → gets Names.HomeAddress t h c ≡ Sees n → 0 + 5 + 2 ≤ length (t h)
+pub home_lies : (t : Tracks) (h : Head) (c : ℕ) (n : Counts) → gets Names.HomeAddress t h c ≡ Ok n → 0 + 5 + 2 ≤ length (t h)
 unfolding gets areas_of on_head all_read
 home_lies t h c n e = lies (t h) home_area (was_read (readable (t h) home_area) _ _ n e).0

@@ -1,20 +1,20 @@
 -- Document 01, "Where the head stands" and "Commands"; REFERENCE 4, 5, 8.2: the one way that every command goes, by its row of the table: which record it
 -- works on, which areas it reads there, what it does with them. The rows of the Unit Check table come in its order.
-use Rattle.std.specs.Prelude.{ℕ, ◌+◌, ◌-◌, ◌/◌, ◌%◌, ◌≡◌, Bool, true, false, List, [], ◌∷◌, ◌++◌, map, length, get_or, take, drop, replicate, ltb, leb, eqb}
+use Rattle.std.specs.Prelude.{ℕ, ◌+◌, ◌-◌, ◌/◌, ◌%◌, ◌≡◌, Bool, true, false, List, [], ◌∷◌, ◌++◌, map, length, get_or, take, drop, replicate, ltb, leb, eqb, Option, Ok, Err, Result}
 use Rattle.cells.specs.Cells.{pick, both, either, be16, number, part, padded, track_cells, marker, gap, marks}
 use Rattle.rows.specs.declared.{Row.Row, Sense.Sense}
 use Rattle.house_check.specs.Check.{cells_with_check}
-use Rattle.areas.specs.declared.{Area.Area, Part.Part, Counts.Counts, CountRead.CountRead}
+use Rattle.areas.specs.declared.{Area.Area, Part.Part, Counts.Counts}
 use Rattle.areas.specs.Areas.{readable, area_bytes, row_of, home_area, home_bytes, r0_first, count_area, counts_at, read_count, key_area, data_area, record_cells, end_by, needed, flag_of_r0, flag_after}
-use Rattle.hunt.specs.declared.{Spot.Spot, Next.Next}
+use Rattle.hunt.specs.declared.{Spot.Spot}
 use Rattle.hunt.specs.Hunt.{spot_fits, count_first, next_record, next_id, space_record}
 use Rattle.room.specs.Room.{fits}
 use Rattle.recording.specs.Recording.{count_sent}
 use Rattle.compare.specs.declared.{Compared.Compared}
 use Rattle.compare.specs.Compare.{compared}
-use Rattle.pack.specs.declared.{Cylinder.Cylinder, Head.Head, Shape.Shape, Sought.Sought}
+use Rattle.pack.specs.declared.{Cylinder.Cylinder, Head.Head, Shape.Shape}
 use Rattle.pack.specs.Pack.{cylinder, head, seek_to, seek_head}
-use Rattle.held.specs.declared.{Selection.Selection, Position.Position, Orders.Orders}
+use Rattle.held.specs.declared.{Position.Position, Orders.Orders}
 use Rattle.held.specs.Held.{no_sense}
 use Rattle.format.specs.Format.{recorded, new_counts, new_record}
 use Rattle.table.specs.declared.{How.How, Licence.Licence, Bar.Bar, Aim.Aim, Names.Names, Control.Control, Write.Write, Act.Act, Rule.Rule, Seeking.Seeking}
@@ -24,7 +24,7 @@ use Rattle.turn.specs.Turn.{Tracks, TrackArea, Piece, Moves, None, Gives, Takes,
 -- Task, where it works: head, place (after its work; of a record the first cell of its count area), selection, tally. Plan: Refuses row, or Works task.
 -- Got: Sees counts, or Fails row. Job, a command that has read all that it names: code; of its row act, names, excepts, clears; position, orders, task,
 -- counts. Ready: Refuses row, or Acts job.
-use Rattle.command.specs.declared.{Task.Task, Plan.Plan, Got.Got, Job.Job, Ready.Ready}
+use Rattle.command.specs.declared.{Task.Task, Job.Job}
 
 -- ==== which record it works on. Of the tracks only the markers are seen
 
@@ -58,7 +58,7 @@ licensed Licence.WrittenOrEqual o = either (record_written o.before) (equal_id_o
 licensed Licence.EqualIdOrKey o = equal_id_or_key o.before o.whole
 licensed Licence.EqualId o = equal_id o.before o.whole
 
-abbrev pub task : Head → ℕ → Selection → ℕ → Task
+abbrev pub task : Head → ℕ → Option Spot → ℕ → Task
 task h p x n = record { head = h; place = p; selection = x; tally = n }
 
 -- after home address work the place is 1; Search ID and Key may pass one index point in a row
@@ -69,9 +69,9 @@ abbrev pub most_tally : ℕ
 most_tally = 1
 
 -- the selected record is one of the track
-unfoldable pub SelectedOn : List Bool → Selection → Type 0
-SelectedOn m Selection.Nothing = Unit {0}
-SelectedOn m (Selection.On spot) = spot_fits m spot ≡ true
+unfoldable pub SelectedOn : List Bool → Option Spot → Type 0
+SelectedOn m Option.None = Unit {0}
+SelectedOn m (Option.Some spot) = spot_fits m spot ≡ true
 
 -- Search ID and Key count the index points that they pass in a row; any other command sets the tally to 0
 unfoldable pub tallies : Act → Bool
@@ -81,47 +81,47 @@ tallies (Act.Read c) = false
 tallies (Act.Write w) = false
 
 -- a record that the head came to past so many index points
-unfoldable pub on_record : Rule → Orders → Head → Spot → ℕ → Plan
+unfoldable pub on_record : Rule → Orders → Head → Spot → ℕ → Result Task Row
 on_record r o h spot n =
-    pick (both (tallies r.act) (ltb most_tally (o.tally + n))) (Plan.Refuses Row.SecondIndex)
-    (Plan.Works (task h (count_first spot) (pick r.selects (Selection.On spot) Selection.Nothing) (pick (tallies r.act) (o.tally + n) 0)))
+    pick (both (tallies r.act) (ltb most_tally (o.tally + n))) (Err Row.SecondIndex)
+    (Ok (task h (count_first spot) (pick r.selects (Option.Some spot) Option.None) (pick (tallies r.act) (o.tally + n) 0)))
 
-unfoldable pub on_next : Rule → Orders → Head → Next → Plan
-on_next r o h (Next.ComesTo spot n) = on_record r o h spot n
-on_next r o h Next.NoMarker = Plan.Refuses Row.NoMarker
+unfoldable pub on_next : Rule → Orders → Head → Option (Spot × ℕ) → Result Task Row
+on_next r o h (Option.Some (spot, n)) = on_record r o h spot n
+on_next r o h Option.None = Err Row.NoMarker
 
 -- the record selected, or else
-unfoldable pub on_selected : Rule → Orders → Head → Selection → Plan → Plan
-on_selected r o h Selection.Nothing other = other
-on_selected r o h (Selection.On spot) other = on_record r o h spot 0
+unfoldable pub on_selected : Rule → Orders → Head → Option Spot → Result Task Row → Result Task Row
+on_selected r o h Option.None other = other
+on_selected r o h (Option.Some spot) other = on_record r o h spot 0
 
 -- the next record on the track under the head
-unfoldable pub to_next : Rule → Marks → Position → Orders → Plan
+unfoldable pub to_next : Rule → Marks → Position → Orders → Result Task Row
 to_next r m s o = on_next r o s.head (next_record (m s.head) s.place)
 
 -- the record selected, where the command before serves this one, or else the next
-unfoldable pub to_served : Rule → Marks → Position → Orders → Bool → Plan
+unfoldable pub to_served : Rule → Marks → Position → Orders → Bool → Result Task Row
 to_served r m s o serves = pick serves (on_selected r o s.head o.selection (to_next r m s o)) (to_next r m s o)
 
-unfoldable pub aimed : Rule → Marks → Position → Orders → Aim → Plan
-aimed r m s o Aim.Stays = Plan.Works (task s.head s.place Selection.Nothing 0)
-aimed r m s o Aim.HomeAddress = Plan.Works (task s.head home_place Selection.Nothing 0)
+unfoldable pub aimed : Rule → Marks → Position → Orders → Aim → Result Task Row
+aimed r m s o Aim.Stays = Ok (task s.head s.place Option.None 0)
+aimed r m s o Aim.HomeAddress = Ok (task s.head home_place Option.None 0)
 aimed r m s o Aim.R0 = on_record r o s.head Spot.R0 0
 aimed r m s o Aim.NextId = on_next r o s.head (next_id (m s.head) s.place)
 aimed r m s o Aim.Next = to_next r m s o
 aimed r m s o Aim.NextForData = to_served r m s o (serves_data (rule_of o.before).serves)
 aimed r m s o Aim.NextForKey = to_served r m s o (serves_key (rule_of o.before).serves)
-aimed r m s o Aim.Selected = on_selected r o s.head o.selection (Plan.Refuses Row.WrongBefore)
+aimed r m s o Aim.Selected = on_selected r o s.head o.selection (Err Row.WrongBefore)
 
 -- seek barred, write barred
-unfoldable pub unless_barred : Bar → ℕ → Plan → Plan
+unfoldable pub unless_barred : Bar → ℕ → Result Task Row → Result Task Row
 unless_barred Bar.Nothing m x = x
-unless_barred (Bar.Seeks k) m x = pick (bars_seek m k) (Plan.Refuses Row.SeekBarred) x
-unless_barred (Bar.Writes k) m x = pick (bars_write m k) (Plan.Refuses Row.WriteBarred) x
+unless_barred (Bar.Seeks k) m x = pick (bars_seek m k) (Err Row.SeekBarred) x
+unless_barred (Bar.Writes k) m x = pick (bars_write m k) (Err Row.WriteBarred) x
 
 -- the rows in order: wrong command before; barred; no marker, second index
-unfoldable pub plan_of : Rule → Marks → Position → Orders → Plan
-plan_of r m s o = pick (licensed r.licence o) (unless_barred r.bar o.mask (aimed r m s o r.aim)) (Plan.Refuses Row.WrongBefore)
+unfoldable pub plan_of : Rule → Marks → Position → Orders → Result Task Row
+plan_of r m s o = pick (licensed r.licence o) (unless_barred r.bar o.mask (aimed r m s o r.aim)) (Err Row.WrongBefore)
 
 -- ==== which areas it reads: of the home address, or of the record whose count area is at c
 
@@ -133,9 +133,9 @@ unfoldable pub named : ℕ → Bool → Bool → Counts → List Area
 named c key body n = area_if (both key (ltb 0 n.kl)) (key_area c n) ++ area_if (both body (ltb 0 n.dl)) (data_area c n)
 
 -- by what the count area says; one that is not readable names nothing
-unfoldable pub named_by : ℕ → Bool → Bool → CountRead → List Area
-named_by c key body (CountRead.Reads n) = named c key body n
-named_by c key body CountRead.Fails = []
+unfoldable pub named_by : ℕ → Bool → Bool → Option Counts → List Area
+named_by c key body (Option.Some n) = named c key body n
+named_by c key body Option.None = []
 
 unfoldable pub on_head : Head → List Area → List TrackArea
 on_head h l = map (λ (a : Area). record { head = h; area = a }) l
@@ -150,9 +150,9 @@ abbrev pub areas_at : Names → Tracks → Task → List TrackArea
 areas_at n t k = areas_of n t k.head k.place
 
 -- all are checked before any byte moves: the row of the first that is not readable, or else x
-unfoldable pub all_read : Tracks → List TrackArea → Got → Got
+unfoldable pub all_read : Tracks → List TrackArea → Result Counts Row → Result Counts Row
 all_read t [] x = x
-all_read t (a ∷ l) x = pick (readable (t a.head) a.area) (all_read t l x) (Got.Fails (row_of a.area.part))
+all_read t (a ∷ l) x = pick (readable (t a.head) a.area) (all_read t l x) (Err (row_of a.area.part))
 
 -- what the count area says; the home address has none
 abbrev pub no_counts : Counts
@@ -163,8 +163,8 @@ counts_in Names.Nothing t h c = no_counts
 counts_in Names.HomeAddress t h c = no_counts
 counts_in (Names.Count key body) t h c = counts_at (t h) c
 
-unfoldable pub gets : Names → Tracks → Head → ℕ → Got
-gets n t h c = all_read t (areas_of n t h c) (Got.Sees (counts_in n t h c))
+unfoldable pub gets : Names → Tracks → Head → ℕ → Result Counts Row
+gets n t h c = all_read t (areas_of n t h c) (Ok (counts_in n t h c))
 
 -- the bytes of areas, part by part; a count area's are its counts
 pub record Seen : Type 0 where
@@ -231,7 +231,7 @@ sight t j v = record {
 pub record Sighted (t : Tracks) (j : Job) : Type 0 where
   pub act : j.act ≡ (rule_of j.code).act
   pub names : j.names ≡ (rule_of j.code).names
-  pub sees : gets j.names t j.task.head j.task.place ≡ Got.Sees j.counts
+  pub sees : gets j.names t j.task.head j.task.place ≡ Ok j.counts
 
 -- ---- how it ends
 
@@ -278,18 +278,18 @@ sense_turn x = end_turn x Ending.Normal (Gives (sense_bytes x.job.position)) [] 
 abbrev pub seek_bytes : ℕ
 seek_bytes = 6
 
-unfoldable pub sought_by : Shape → Seeking → Cylinder → List ℕ → Sought
+unfoldable pub sought_by : Shape → Seeking → Cylinder → List ℕ → Result (Cylinder × Head) Row
 sought_by g Seeking.Seek c v = seek_to g (be16 v 0) (cylinder (be16 v 2)) (head (be16 v 4))
 sought_by g Seeking.SeekCylinder c v = seek_to g (be16 v 0) (cylinder (be16 v 2)) (head (be16 v 4))
 sought_by g Seeking.SeekHead c v = seek_head g c (head (be16 v 4))
 
 -- bad or short
-unfoldable pub addressed : Shape → Seeking → Cylinder → List ℕ → Sought
-addressed g k c v = pick (ltb (length v) seek_bytes) (Sought.Fails Row.BadSeek) (sought_by g k c v)
+unfoldable pub addressed : Shape → Seeking → Cylinder → List ℕ → Result (Cylinder × Head) Row
+addressed g k c v = pick (ltb (length v) seek_bytes) (Err Row.BadSeek) (sought_by g k c v)
 
-unfoldable pub arrival_turn : Sight → Sought → Turn
-arrival_turn x (Sought.To c h) = turn Ending.Normal (Takes seek_bytes) x.reads [] (position_sought c h) (orders_after x.job x.job.task false)
-arrival_turn x (Sought.Fails row) = fail_turn x row
+unfoldable pub arrival_turn : Sight → Result (Cylinder × Head) Row → Turn
+arrival_turn x (Ok (c, h)) = turn Ending.Normal (Takes seek_bytes) x.reads [] (position_sought c h) (orders_after x.job x.job.task false)
+arrival_turn x (Err row) = fail_turn x row
 
 unfoldable pub seek_turn : Shape → Seeking → Sight → Turn
 seek_turn g k x = arrival_turn x (addressed g k x.job.position.cylinder x.sent)
@@ -301,7 +301,7 @@ mask_bytes = 1
 
 unfoldable pub masked_turn : Sight → ℕ → Turn
 masked_turn x byte =
-    turn Ending.Normal (Takes mask_bytes) x.reads [] (position_after x.job x.job.task) (orders_of byte true x.job.code false 0 Selection.Nothing)
+    turn Ending.Normal (Takes mask_bytes) x.reads [] (position_after x.job x.job.task) (orders_of byte true x.job.code false 0 Option.None)
 
 unfoldable pub mask_turn : Sight → ℕ → Turn
 mask_turn x byte = pick (is_mask byte) (pick x.job.orders.mask_set (fail_turn x Row.SecondMask) (masked_turn x byte)) (fail_turn x Row.BadMask)
@@ -312,7 +312,7 @@ unfoldable pub spaced_place : Sight → ℕ
 spaced_place x = space_record x.marks x.job.position.place (is_home (rule_of x.job.orders.before).aim)
 
 unfoldable pub space_turn : Sight → Turn
-space_turn x = end_turn_at x (task x.job.task.head (spaced_place x) Selection.Nothing 0) Ending.Normal None [] false
+space_turn x = end_turn_at x (task x.job.task.head (spaced_place x) Option.None 0) Ending.Normal None [] false
 
 -- ---- searches: the first m bytes, m the smaller of the bytes sent and the field, as unsigned numbers
 
@@ -414,7 +414,7 @@ r0_turn x flag =
 -- 1D: behind the record that it follows, its marker first; it is selected, and the place after it
 unfoldable pub record_turn : Sight → ℕ → ℕ → Turn
 record_turn x at flag =
-    new_turn x (task x.job.task.head (at + 1) (Selection.On (Spot.Marker at)) 0) at (new_counts flag x.sent) (needed (new_counts flag x.sent))
+    new_turn x (task x.job.task.head (at + 1) (Option.Some (Spot.Marker at)) 0) at (new_counts flag x.sent) (needed (new_counts flag x.sent))
     (marker ∷ new_record flag x.sent)
 
 -- 05 and 0D: an area of n bytes, if there are any, of those sent from one on
@@ -470,22 +470,22 @@ job_of code r s o k n = record {
 }
 
 -- the row that ends it before it acts: one of its plan's, then unreadable; or the job
-unfoldable pub has_read : ℕ → Rule → Position → Orders → Task → Got → Ready
-has_read code r s o k (Got.Sees n) = Ready.Acts (job_of code r s o k n)
-has_read code r s o k (Got.Fails row) = Ready.Refuses row
+unfoldable pub has_read : ℕ → Rule → Position → Orders → Task → Result Counts Row → Result Job Row
+has_read code r s o k (Ok n) = Ok (job_of code r s o k n)
+has_read code r s o k (Err row) = Err row
 
-unfoldable pub ready_by : Tracks → ℕ → Rule → Position → Orders → Plan → Ready
-ready_by t code r s o (Plan.Refuses row) = Ready.Refuses row
-ready_by t code r s o (Plan.Works k) = has_read code r s o k (gets r.names t k.head k.place)
+unfoldable pub ready_by : Tracks → ℕ → Rule → Position → Orders → Result Task Row → Result Job Row
+ready_by t code r s o (Err row) = Err row
+ready_by t code r s o (Ok k) = has_read code r s o k (gets r.names t k.head k.place)
 
 -- the areas read by then
-unfoldable pub plan_reads : Tracks → Rule → Plan → List TrackArea
-plan_reads t r (Plan.Refuses row) = []
-plan_reads t r (Plan.Works k) = areas_at r.names t k
+unfoldable pub plan_reads : Tracks → Rule → Result Task Row → List TrackArea
+plan_reads t r (Err row) = []
+plan_reads t r (Ok k) = areas_at r.names t k
 
-unfoldable pub ready_turn : Shape → Tracks → Position → Orders → List ℕ → List TrackArea → Ready → Turn
-ready_turn g t s o v reads (Ready.Refuses row) = check_turn s o reads row
-ready_turn g t s o v reads (Ready.Acts j) = act_turn g j.act (sight t j v)
+unfoldable pub ready_turn : Shape → Tracks → Position → Orders → List ℕ → List TrackArea → Result Job Row → Turn
+ready_turn g t s o v reads (Err row) = check_turn s o reads row
+ready_turn g t s o v reads (Ok j) = act_turn g j.act (sight t j v)
 
 -- by a row of the table
 unfoldable pub rule_turn : Shape → Tracks → ℕ → Rule → Position → Orders → List ℕ → Turn
@@ -496,5 +496,5 @@ unfoldable pub command : Shape → Tracks → Position → Orders → ℕ → Li
 command g t s o code v = rule_turn g t code (rule_of code) s o v
 
 -- what it comes to before it acts
-unfoldable pub ready_of : Tracks → Position → Orders → ℕ → Ready
+unfoldable pub ready_of : Tracks → Position → Orders → ℕ → Result Job Row
 ready_of t s o code = ready_by t code (rule_of code) s o (plan_of (rule_of code) (marks_of t) s o)

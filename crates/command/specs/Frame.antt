@@ -1,14 +1,15 @@
 -- The words in which it is said what a command sees of the pack, and what it leaves as it is: demand 3 of one command (REFERENCE 1.3, 4.7). Two cylinders
 -- are compared by the areas that the command reads, in order.
-use Rattle.std.specs.Prelude.{◌≡◌, Bool, true, false, List, [], ◌∷◌, ◌⊎◌}
+use Rattle.std.specs.Prelude.{◌≡◌, Bool, true, false, List, [], ◌∷◌, ◌⊎◌, Err, Ok, Result}
 use Rattle.areas.specs.declared.{Part.Part}
 use Rattle.areas.specs.Areas.{area_cells, readable}
 use Rattle.pack.specs.declared.{Head.Head}
 use Rattle.held.specs.declared.{Position.Position}
 use Rattle.table.specs.declared.{Control.Control, Act.Act}
 use Rattle.turn.specs.Turn.{Tracks, TrackArea, Piece}
+use Rattle.command.specs.declared.{Task.Task}
+use Rattle.rows.specs.declared.{Row.Row}
 -- Plan: Refuses row, or Works task
-use Rattle.command.specs.declared.{Plan.Plan}
 
 -- ---- two cylinders
 
@@ -31,9 +32,9 @@ Breaks t t' (a ∷ l) p =
 -- ---- under which head
 
 -- a plan that refuses works nowhere: the head stays
-unfoldable pub plan_head : Position → Plan → Head
-plan_head s (Plan.Refuses row) = s.head
-plan_head s (Plan.Works k) = k.head
+unfoldable pub plan_head : Position → Result Task Row → Head
+plan_head s (Err row) = s.head
+plan_head s (Ok k) = k.head
 
 -- areas, and pieces, of this head's track
 abbrev pub ReadsUnder : Head → List TrackArea → Type 0

@@ -2,9 +2,9 @@
 #![tactic(auto)]
 
 use areas::Counts;
-use held::{Orders, Position, Selection};
+use held::{Orders, Position};
+use hunt::Spot;
 use pack::Head;
-use rows::Row;
 use table::{Act, Names};
 
 // Where a command works: the head; the place after its work, which for a record is the first cell of its count area; what it leaves selected; the index
@@ -13,22 +13,8 @@ use table::{Act, Names};
 pub struct Task {
     pub head: Head,
     pub place: u16,
-    pub selection: Selection,
+    pub selection: Option<Spot>,
     pub tally: u8,
-}
-
-// A row of the Unit Check table, or a task.
-#[derive(Clone, Copy)]
-pub enum Plan {
-    Refuses(Row),
-    Works(Task),
-}
-
-// What reading gives: what the count area says, all areas being readable, or the row of the first that is not.
-#[derive(Clone, Copy)]
-pub enum Got {
-    Sees(Counts),
-    Fails(Row),
 }
 
 // A command that has read all that it names: its code; of its row what it does, which areas it names, whether DL 0 is Unit Exception, whether sense is
@@ -44,11 +30,4 @@ pub struct Job {
     pub orders: Orders,
     pub task: Task,
     pub counts: Counts,
-}
-
-// A row of the Unit Check table, or a command that can act.
-#[derive(Clone, Copy)]
-pub enum Ready {
-    Refuses(Row),
-    Acts(Job),
 }

@@ -11,7 +11,6 @@ use Rattle.cells.specs.Cells.{pick, overlay, marks}
 use Rattle.cells.proofs.Laws.{take_min, put_more}
 use Rattle.rows.specs.declared.{Row.Row}
 use Rattle.hunt.specs.Hunt.{space_record}
-use Rattle.held.specs.declared.Selection.TheVariants.{Nothing}
 use Rattle.held.specs.declared.{Position.Position}
 use Rattle.turn.specs.declared.Ending.TheVariants.{Normal}
 use Rattle.table.specs.declared.{Rule.Rule}
@@ -21,6 +20,7 @@ use Rattle.turn.specs.Turn.{alone, transfer_of, report_of}
 use Rattle.command.specs.declared.{Job.Job}
 use Rattle.command.specs.Command.{task, Sight, sight, fail_turn, end_turn_at, sense_bytes, masked_turn, mask_turn, spaced_place, space_turn}
 use Rattle.ending.specs.Ending.{report_at}
+use Rattle.std.specs.Prelude.{None}
 
 -- ---- the bytes of sense
 
@@ -67,7 +67,7 @@ by_tests x byte a b p q =
 -- ---- Space Record
 
 pub spaced : (t : List ℕ) (j : Job) (v : List ℕ) (r : Report) (p : ℕ) (home : Bool) (rule : Rule)
-    → r ≡ report_at j (task j.task.head p Nothing 0) Normal Transfer.None false
+    → r ≡ report_at j (task j.task.head p None 0) Normal Transfer.None false
     → rule ≡ rule_of j.orders.before → home ≡ is_home rule.aim → p ≡ space_record (marks t) j.position.place home
     → r ≡ report_of (space_turn (sight (alone t) j v))
 unfolding report_at report_of transfer_of space_turn spaced_place end_turn_at sight

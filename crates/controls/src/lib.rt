@@ -8,8 +8,8 @@ ghost use Rattle.turn.specs.Turn.{Tracks, alone, report_of, filled};
 ghost use Rattle.command.specs.Command.{sight, sense_bytes, seek_bytes, sought_by, addressed, arrival_turn, seek_turn, masked_turn, mask_turn, space_turn, control_turn};
 
 use command::{Job, Task};
-use held::{Orders, Position, Selection};
-use pack::{Cylinder, Head, Shape, Sought};
+use held::{Orders, Position};
+use pack::{Cylinder, Head, Shape};
 use rows::{Row, Sense};
 use table::{Control, Seeking};
 use turn::{Ending, Report, Transfer};
@@ -37,7 +37,7 @@ fn two(sent: &[u8], at: usize) -> u16
 }
 
 // What the six bytes of a seek come to.
-fn sought_by(g: Shape, k: Seeking, c: Cylinder, sent: &[u8]) -> Sought
+fn sought_by(g: Shape, k: Seeking, c: Cylinder, sent: &[u8]) -> Result<(Cylinder, Head), Row>
     requires { seek_bytes ≤ length sent.now }
     ensures { result ≡ sought_by g k c sent.now }
 {
@@ -51,22 +51,22 @@ fn sought_by(g: Shape, k: Seeking, c: Cylinder, sent: &[u8]) -> Sought
     }
 }
 
-fn addressed(g: Shape, k: Seeking, c: Cylinder, sent: &[u8]) -> Sought
+fn addressed(g: Shape, k: Seeking, c: Cylinder, sent: &[u8]) -> Result<(Cylinder, Head), Row>
     ensures { result ≡ addressed g k c sent.now }
 {
     if sent.len() < SEEK as usize {
-        return Sought::Fails(Row::BadSeek);
+        return Err(Row::BadSeek);
     }
     sought_by(g, k, c, sent)
 }
 
 // The orders come before the match: taken in its arm, they kept the whole job in memory, and every command paid (DECISIONS 97).
-fn arrives(j: Job, x: Sought) -> Report
+fn arrives(j: Job, x: Result<(Cylinder, Head), Row>) -> Report
     ensures { (t : Tracks) (v : List ℕ) → result ≡ report_of (arrival_turn (sight t j v) x) }
 {
     let orders = ending::orders_after(j, j.task, false);
     match x {
-        Sought::To(c, h) => Report {
+        Ok((c, h)) => Report {
             ending: Ending::Normal,
             transfer: Transfer::Takes(SEEK),
             position: Position {
@@ -77,7 +77,7 @@ fn arrives(j: Job, x: Sought) -> Report
             },
             orders,
         },
-        Sought::Fails(row) => ending::fails(j, row),
+        Err(row) => ending::fails(j, row),
     }
 }
 
@@ -97,7 +97,7 @@ fn masked(j: Job, byte: u8) -> Report
         before: j.code,
         whole: false,
         tally: 0,
-        selection: Selection::Nothing,
+        selection: None,
     };
     Report {
         ending: Ending::Normal,
@@ -132,7 +132,7 @@ fn space(j: Job, track: &[u16]) -> Report
     let task = Task {
         head,
         place,
-        selection: Selection::Nothing,
+        selection: None,
         tally: 0,
     };
     ending::ended_at(j, task, Ending::Normal, Transfer::None, false)

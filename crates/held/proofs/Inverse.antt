@@ -12,10 +12,10 @@ use borrow.Author.Tests.{eqb-true, ltb-true}
 use Rattle.cells.specs.Cells.{pick, both, be16}
 use Rattle.cells.proofs.Numbers.{Bytes}
 use Rattle.hunt.specs.declared.Spot.TheVariants.{R0, Marker}
-use Rattle.held.specs.declared.{Selection.Selection, Held.Held}
-use Rattle.held.specs.declared.Selection.TheVariants.{Nothing, On}
-use Rattle.held.specs.declared.Kept.TheVariants.{Holds, Wrong}
+use Rattle.held.specs.declared.{Held.Held}
 use Rattle.held.specs.Held.{fresh, fresh_position, fresh_orders, fresh_channel, held_bytes, layout, bit, selection_no, selection_cell, encoded, InRange, is_bit, all_zero, is_set, cell_fits, flags_fit, selection_encoded, encodes, selection_in, decoded, kept}
+use Rattle.std.specs.Prelude.{None, Some, Option}
+use Rattle.hunt.specs.declared.{Spot.Spot}
 
 -- ---- numbers taken apart and put together
 
@@ -30,14 +30,14 @@ set-bit true = refl
 set-bit false = refl
 
 -- the selection's byte and its cell
-unfoldable said : ℕ → ℕ → Selection
-said n cell = pick (eqb n 0) Nothing (pick (eqb n 1) (On R0) (On (Marker cell)))
+unfoldable said : ℕ → ℕ → Option Spot
+said n cell = pick (eqb n 0) None (pick (eqb n 1) (Some R0) (Some (Marker cell)))
 
-said_back : (s : Selection) → said (selection_no s) (selection_cell s / 256 * 256 + selection_cell s % 256) ≡ s
+said_back : (s : Option Spot) → said (selection_no s) (selection_cell s / 256 * 256 + selection_cell s % 256) ≡ s
 unfolding said
-said_back Nothing = refl
-said_back (On R0) = refl
-said_back (On (Marker p)) = ap (λ (n : ℕ). On (Marker n)) (two_back p)
+said_back None = refl
+said_back (Some R0) = refl
+said_back (Some (Marker p)) = ap (λ (n : ℕ). Some (Marker n)) (two_back p)
 
 -- ---- a state's bytes say that state
 
@@ -49,11 +49,11 @@ is_bit_lem : (b : Bool) → is_bit (bit b) ≡ true
 is_bit_lem true = refl
 is_bit_lem false = refl
 
-selection_fits_lem : (s : Selection)
+selection_fits_lem : (s : Option Spot)
     → both (both (ltb (selection_no s) 3) (pick (eqb (selection_no s) 2) true (eqb (selection_cell s / 256 * 256 + selection_cell s % 256) 0))) true ≡ true
-selection_fits_lem Nothing = refl
-selection_fits_lem (On R0) = refl
-selection_fits_lem (On (Marker p)) = refl
+selection_fits_lem None = refl
+selection_fits_lem (Some R0) = refl
+selection_fits_lem (Some (Marker p)) = refl
 
 pub encodes-encoded : (h : Held) → encodes (encoded h) ≡ true
 unfolding encodes flags_fit selection_encoded encoded all_zero
@@ -84,10 +84,10 @@ decoded-encoded h = λ i. record {
   };
 }
 
-pub kept-encoded : (h : Held) → kept (encoded h) ≡ Holds h
+pub kept-encoded : (h : Held) → kept (encoded h) ≡ Some h
 unfolding kept
 kept-encoded h =
-    ap (λ (b : Bool). pick b (Holds (decoded (encoded h))) Wrong) (encodes-encoded h) ∙ ap Holds (decoded-encoded h)
+    ap (λ (b : Bool). pick b (Some (decoded (encoded h))) None) (encodes-encoded h) ∙ ap Some (decoded-encoded h)
 
 -- the fresh box's bytes: the layout's number, and zeros
 pub fresh-bytes : encoded fresh
@@ -118,10 +118,10 @@ bit_byte : (b : Bool) → bit b < 256
 bit_byte true = lit< tt
 bit_byte false = lit< tt
 
-no_byte : (s : Selection) → selection_no s < 256
-no_byte Nothing = lit< tt
-no_byte (On R0) = lit< tt
-no_byte (On (Marker p)) = lit< tt
+no_byte : (s : Option Spot) → selection_no s < 256
+no_byte None = lit< tt
+no_byte (Some R0) = lit< tt
+no_byte (Some (Marker p)) = lit< tt
 
 high_byte : (n : ℕ) → n < 65536 → n / 256 < 256
 high_byte n h = omega arith
@@ -299,18 +299,18 @@ encoded-decoded v b e =
     made ∙ sym (opens 24 0 v (omega (arith, r.long)))
 
 -- bytes that say a state encode it
-pub says : (v : List ℕ) (h : Held) (t : Bool) → pick t (Holds (decoded v)) Wrong ≡ Holds h → (t ≡ true) × (decoded v ≡ h)
+pub says : (v : List ℕ) (h : Held) (t : Bool) → pick t (Some (decoded v)) None ≡ Some h → (t ≡ true) × (decoded v ≡ h)
 says v h true e = (refl, cc)
 says v h false e = absurd (let z : ◌≡◌ {A = ℕ} 0 1 = cc in omega arith)
 
-pub encoded-kept : (v : List ℕ) (h : Held) → Bytes v → kept v ≡ Holds h → encoded h ≡ v
+pub encoded-kept : (v : List ℕ) (h : Held) → Bytes v → kept v ≡ Some h → encoded h ≡ v
 unfolding kept
 encoded-kept v h b e =
     let s = says v h (encodes v) e in
     ap encoded (sym s.1) ∙ encoded-decoded v b s.0
 
 -- and the state that bytes say is in range
-pub kept_in_range : (v : List ℕ) (h : Held) → Bytes v → kept v ≡ Holds h → InRange h
+pub kept_in_range : (v : List ℕ) (h : Held) → Bytes v → kept v ≡ Some h → InRange h
 unfolding kept decoded selection_in said
 kept_in_range v h b e =
     let s = says v h (encodes v) e in

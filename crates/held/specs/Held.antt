@@ -1,5 +1,5 @@
 -- Document 01, "Where the head stands" and "Commands"; REFERENCE 3: what the box holds from call to call, and the 64 bytes of it that a host keeps.
-use Rattle.std.specs.Prelude.{ℕ, ◌+◌, ◌*◌, ◌/◌, ◌%◌, ◌^◌, ◌<◌, Bool, true, false, List, [], ◌∷◌, ◌++◌, length, get_or, drop, replicate, ltb, eqb}
+use Rattle.std.specs.Prelude.{ℕ, ◌+◌, ◌*◌, ◌/◌, ◌%◌, ◌^◌, ◌<◌, Bool, true, false, List, [], ◌∷◌, ◌++◌, length, get_or, drop, replicate, ltb, eqb, None, Some, Option}
 use Rattle.cells.specs.Cells.{pick, both, be16, be24}
 use Rattle.rows.specs.declared.{Sense.Sense}
 use Rattle.hunt.specs.declared.{Spot.Spot}
@@ -7,7 +7,7 @@ use Rattle.pack.specs.Pack.{cylinder, head}
 -- Position, what survives a chain: cylinder, head, place, sense. Orders, what a command finds: mask, mask_set, before (a code, 0 for none), whole (its
 -- search was equal over the whole field), tally, selection. Selection: Nothing, or On spot. Channel: going, key, next, after_tic. Held: all three.
 -- Kept, what lent bytes say: Holds held, or Wrong.
-use Rattle.held.specs.declared.{Selection.Selection, Position.Position, Orders.Orders, Channel.Channel, Held.Held, Kept.Kept}
+use Rattle.held.specs.declared.{Position.Position, Orders.Orders, Channel.Channel, Held.Held}
 
 -- sense all zero
 abbrev pub no_sense : Sense
@@ -19,7 +19,7 @@ fresh_position = record { cylinder = cylinder 0; head = head 0; place = 0; sense
 
 -- each chain starts with mask 0, none set yet, no selection, no command before and index tally 0
 unfoldable pub fresh_orders : Orders
-fresh_orders = record { mask = 0; mask_set = false; before = 0; whole = false; tally = 0; selection = Selection.Nothing }
+fresh_orders = record { mask = 0; mask_set = false; before = 0; whole = false; tally = 0; selection = None }
 
 unfoldable pub fresh_channel : Channel
 fresh_channel = record { going = false; key = 0; next = 0; after_tic = false }
@@ -45,15 +45,15 @@ bit true = 1
 bit false = 0
 
 -- a selection's number, and its marker's cell, zero if none
-abbrev pub selection_no : Selection → ℕ
-selection_no Selection.Nothing = 0
-selection_no (Selection.On Spot.R0) = 1
-selection_no (Selection.On (Spot.Marker p)) = 2
+abbrev pub selection_no : Option Spot → ℕ
+selection_no None = 0
+selection_no (Some Spot.R0) = 1
+selection_no (Some (Spot.Marker p)) = 2
 
-abbrev pub selection_cell : Selection → ℕ
-selection_cell Selection.Nothing = 0
-selection_cell (Selection.On Spot.R0) = 0
-selection_cell (Selection.On (Spot.Marker p)) = p
+abbrev pub selection_cell : Option Spot → ℕ
+selection_cell None = 0
+selection_cell (Some Spot.R0) = 0
+selection_cell (Some (Spot.Marker p)) = p
 
 abbrev pub two : ℕ → List ℕ
 two n = n / 256 ∷ n % 256 ∷ []
@@ -126,9 +126,9 @@ encodes v =
     both (eqb (length v) held_bytes)
     (both (eqb (get_or v 11 0) layout) (both (flags_fit v) (both (selection_encoded v) (all_zero (drop 24 v)))))
 
-unfoldable pub selection_in : List ℕ → Selection
+unfoldable pub selection_in : List ℕ → Option Spot
 selection_in v =
-    pick (eqb (get_or v 10 0) 0) Selection.Nothing (pick (eqb (get_or v 10 0) 1) (Selection.On Spot.R0) (Selection.On (Spot.Marker (be16 v 12))))
+    pick (eqb (get_or v 10 0) 0) None (pick (eqb (get_or v 10 0) 1) (Some Spot.R0) (Some (Spot.Marker (be16 v 12))))
 
 abbrev pub be32 : List ℕ → ℕ → ℕ
 be32 v at = get_or v at 0 * 16777216 + be24 v (at + 1)
@@ -158,5 +158,5 @@ decoded v = record {
   };
 }
 
-unfoldable pub kept : List ℕ → Kept
-kept v = pick (encodes v) (Kept.Holds (decoded v)) Kept.Wrong
+unfoldable pub kept : List ℕ → Option Held
+kept v = pick (encodes v) (Some (decoded v)) None

@@ -14,13 +14,6 @@ const HELD_BYTES: usize = 64;
 
 const LAYOUT: u8 = 1;
 
-// The record selected for the very next command, if one is.
-#[derive(Clone, Copy)]
-pub enum Selection {
-    Nothing,
-    On(Spot),
-}
-
 // Where the head stands, and what sense says: this survives a chain.
 #[derive(Clone, Copy)]
 pub struct Position {
@@ -40,7 +33,7 @@ pub struct Orders {
     // Its search was equal over the whole field.
     pub whole: bool,
     pub tally: u8,
-    pub selection: Selection,
+    pub selection: Option<Spot>,
 }
 
 // The channel's part: whether a chain is going, its key, the next word's address, whether the word before was a TIC.
@@ -57,13 +50,6 @@ pub struct Held {
     pub position: Position,
     pub orders: Orders,
     pub channel: Channel,
-}
-
-// What lent bytes say: a held state, or that they encode none.
-#[derive(Clone, Copy)]
-pub enum Kept {
-    Holds(Held),
-    Wrong,
 }
 
 impl Held {
@@ -84,7 +70,7 @@ impl Held {
                 before: 0,
                 whole: false,
                 tally: 0,
-                selection: Selection::Nothing,
+                selection: None,
             },
             channel: Channel {
                 going: false,
@@ -189,17 +175,17 @@ fn encodes_held(bytes: &[u8]) -> bool
     flags_fit(bytes) && (selection_fits(bytes) && zeros_from(bytes, 24))
 }
 
-fn selection_in(bytes: &[u8]) -> Selection
+fn selection_in(bytes: &[u8]) -> Option<Spot>
     ensures { result ≡ selection_in bytes.now }
 {
     let selection = cells::byte_at(bytes, 10);
     if selection == 0 {
-        return Selection::Nothing;
+        return None;
     }
     if selection == 1 {
-        return Selection::On(Spot::R0);
+        return Some(Spot::R0);
     }
-    Selection::On(Spot::Marker(pair_at(bytes, 12)))
+    Some(Spot::Marker(pair_at(bytes, 12)))
 }
 
 fn position_in(bytes: &[u8]) -> Position
@@ -251,13 +237,13 @@ fn held_in(bytes: &[u8]) -> Held
 }
 
 // The held state that bytes encode, or that they encode none.
-pub fn keep(bytes: &[u8]) -> Kept
+pub fn keep(bytes: &[u8]) -> Option<Held>
     ensures { result ≡ kept bytes.now }
 {
     if encodes_held(bytes) {
-        return Kept::Holds(held_in(bytes));
+        return Some(held_in(bytes));
     }
-    Kept::Wrong
+    None
 }
 
 fn bit_of(b: bool) -> u8
@@ -278,12 +264,12 @@ fn low(n: u16) -> u8
     (n % 256) as u8
 }
 
-fn selection_no(selection: Selection) -> u8
+fn selection_no(selection: Option<Spot>) -> u8
     ensures { result ≡ selection_no selection }
 {
     match selection {
-        Selection::Nothing => 0,
-        Selection::On(spot) => match spot {
+        None => 0,
+        Some(spot) => match spot {
             Spot::R0 => 1,
             Spot::Marker(_) => 2,
         },
@@ -291,12 +277,12 @@ fn selection_no(selection: Selection) -> u8
 }
 
 // The selected marker's cell, 0 where no marker is selected.
-fn selection_cell(selection: Selection) -> u16
+fn selection_cell(selection: Option<Spot>) -> u16
     ensures { result ≡ selection_cell selection }
 {
     match selection {
-        Selection::Nothing => 0,
-        Selection::On(spot) => match spot {
+        None => 0,
+        Some(spot) => match spot {
             Spot::R0 => 0,
             Spot::Marker(p) => p,
         },

@@ -15,8 +15,8 @@ use Rattle.channel.specs.Channel.{World}
 use Rattle.chain.specs.Step.{storage_fits, held_fits, Legal}
 use Rattle.host.specs.declared.{Answer.Answer}
 use Rattle.host.specs.declared.Answer.TheVariants.{BadStorage, BadPack, BadHeld}
-use Rattle.host.specs.declared.Guarded.TheVariants.{Passes, Answers}
-use Rattle.host.specs.Host.{guard_of}
+use Rattle.host.specs.Host.{guard_of, no_refusal}
+use Rattle.std.specs.Prelude.{Ok, Err}
 
 -- ---- refusal 3
 
@@ -32,18 +32,18 @@ fits_whole g cells e =
 
 -- ---- all of them
 
-differs : (a : Answer) → Answers a ≡ Passes → ⊥
+differs : (a : Answer) → Err a ≡ no_refusal → ⊥
 differs a e = let z : ◌≡◌ {A = ℕ} 0 1 = cc in omega arith
 
 module _ (g : Shape) (w : World) where
   -- what the tests say where they pass, one after another
-  by : (a b c : Bool) → pick a (pick b (pick c Passes (Answers BadHeld)) (Answers BadPack)) (Answers BadStorage) ≡ Passes → (a ≡ true) × (b ≡ true) × (c ≡ true)
+  by : (a b c : Bool) → pick a (pick b (pick c no_refusal (Err BadHeld)) (Err BadPack)) (Err BadStorage) ≡ no_refusal → (a ≡ true) × (b ≡ true) × (c ≡ true)
   by true true true e = (refl, refl, refl)
   by true true false e = absurd (differs BadHeld e)
   by true false c e = absurd (differs BadPack e)
   by false b c e = absurd (differs BadStorage e)
 
-  pub passes_legal : guard_of g w ≡ Passes → Legal g w
+  pub passes_legal : guard_of g w ≡ no_refusal → Legal g w
   unfolding guard_of storage_fits held_fits
   passes_legal e =
       let t = by (storage_fits (length w.storage)) (pack_fits g (length w.cells)) (held_fits g w) e in
@@ -53,11 +53,11 @@ module _ (g : Shape) (w : World) where
         held = t.2;
       }
 
-  pub legal_passes : Legal g w → storage_fits (length w.storage) ≡ true → pack_fits g (length w.cells) ≡ true → guard_of g w ≡ Passes
+  pub legal_passes : Legal g w → storage_fits (length w.storage) ≡ true → pack_fits g (length w.cells) ≡ true → guard_of g w ≡ no_refusal
   unfolding guard_of held_fits
   legal_passes L p q =
-      λ i. pick (p i) (pick (q i) (pick (L.held i) Passes (Answers BadHeld)) (Answers BadPack)) (Answers BadStorage)
+      λ i. pick (p i) (pick (q i) (pick (L.held i) no_refusal (Err BadHeld)) (Err BadPack)) (Err BadStorage)
 
-  pub passes_sizes : guard_of g w ≡ Passes → (storage_fits (length w.storage) ≡ true) × (pack_fits g (length w.cells) ≡ true)
+  pub passes_sizes : guard_of g w ≡ no_refusal → (storage_fits (length w.storage) ≡ true) × (pack_fits g (length w.cells) ≡ true)
   unfolding guard_of
   passes_sizes e = let t = by (storage_fits (length w.storage)) (pack_fits g (length w.cells)) (held_fits g w) e in (t.0, t.1)

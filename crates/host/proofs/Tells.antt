@@ -10,9 +10,7 @@ use lib.Dec.{leb}
 use borrow.Author.Tests.{lt-leb, le-leb}
 use Rattle.cells.specs.Cells.{pick, both, overlay, mark_at, marks}
 use Rattle.cells.proofs.Marks.{get_or-marks}
-use Rattle.words.specs.declared.{Word.Word, Begun.Begun, Cause.Cause, Tested.Tested}
-use Rattle.words.specs.declared.Begun.TheVariants.{Begins, Refused}
-use Rattle.words.specs.declared.Tested.TheVariants.{Obey, Jump, Bad}
+use Rattle.words.specs.declared.{Word.Word, Cause.Cause, Directive.Directive}
 use Rattle.words.specs.Words.{along, begun_by, tested}
 use Rattle.hunt.specs.declared.{Spot.Spot}
 use Rattle.hunt.specs.declared.Spot.TheVariants.{R0, Marker}
@@ -21,15 +19,15 @@ use Rattle.pack.specs.Pack.{pack_fits, start_of, track_at}
 use Rattle.pack.proofs.Laws.{lent_is}
 use Rattle.table.specs.declared.{Rule.Rule}
 use Rattle.table.specs.Table.{rule_of, is_mask}
-use Rattle.held.specs.declared.{Selection.Selection, Orders.Orders, Held.Held}
-use Rattle.held.specs.declared.Selection.TheVariants.{Nothing, On}
+use Rattle.held.specs.declared.{Orders.Orders, Held.Held}
 use Rattle.channel.specs.Channel.{World, world}
 use Rattle.chain.specs.Step.{under, track_under, run, storage_fits, position_fits, channel_fits, selection_fits, orders_fit, held_fits}
 use Rattle.hunt.specs.Hunt.{spot_fits}
-use Rattle.host.specs.declared.{Answer.Answer, Guarded.Guarded}
+use Rattle.host.specs.declared.{Answer.Answer}
 use Rattle.host.specs.declared.Answer.TheVariants.{ChainEnded, AllowanceUsed, BadStorage, BadPack, BadHeld, NoChain, ChainGoing}
-use Rattle.host.specs.declared.Guarded.TheVariants.{Passes, Answers}
-use Rattle.host.specs.Host.{Hears, hears, guard_of, wrong_held, guards, refuses_start, beginning, first_word, begins, starts, ran, goes}
+use Rattle.host.specs.Host.{Hears, hears, guard_of, wrong_held, guards, refuses_start, beginning, first_word, begins, starts, ran, goes, no_refusal}
+use Rattle.std.specs.Prelude.{Some, None, Ok, Err, Option, Result}
+use Rattle.words.specs.declared.Directive.TheVariants.{Obey, Jump}
 
 pub hears_eq : {a b : Answer} {h k : Held} {s t c d : List ℕ} → a ≡ b → h ≡ k → s ≡ t → c ≡ d → hears a (world h s c) ≡ hears b (world k t d)
 hears_eq p q r u = λ i. hears (p i) (world (q i) (r i) (u i))
@@ -44,11 +42,11 @@ pub spot_marker : (t : List ℕ) (s : Spot) (p : ℕ) (b : Bool) → s ≡ Marke
 unfolding spot_fits
 spot_marker t s p b e q = q ∙ sym (get_or-marks t p) ∙ ap (spot_fits (marks t)) (sym e)
 
-pub none_selected : (m : List Bool) (o : Orders) (x : Selection) (r : Rule) → x ≡ Nothing → r ≡ rule_of o.before → not r.selects ≡ selection_fits m o x
+pub none_selected : (m : List Bool) (o : Orders) (x : Option Spot) (r : Rule) → x ≡ None → r ≡ rule_of o.before → not r.selects ≡ selection_fits m o x
 unfolding selection_fits
 none_selected m o x r e p = ap (λ (y : Rule). not y.selects) p ∙ ap (selection_fits m o) (sym e)
 
-pub some_selected : (m : List Bool) (o : Orders) (x : Selection) (s : Spot) (b : Bool) → x ≡ On s → b ≡ spot_fits m s → b ≡ selection_fits m o x
+pub some_selected : (m : List Bool) (o : Orders) (x : Option Spot) (s : Spot) (b : Bool) → x ≡ Some s → b ≡ spot_fits m s → b ≡ selection_fits m o x
 unfolding selection_fits
 some_selected m o x s b e q = q ∙ ap (selection_fits m o) (sym e)
 
@@ -92,22 +90,22 @@ module _ (g : Shape) (h : Held) (cells : List ℕ) (b : Bool) (e : b ≡ positio
 
 module _ (g : Shape) (w : World) (a : Bool) (p : a ≡ storage_fits (length w.storage)) where
   told : (x y z : Bool) → storage_fits (length w.storage) ≡ x → pack_fits g (length w.cells) ≡ y → held_fits g w ≡ z
-      → pick x (pick y (pick z Passes (Answers BadHeld)) (Answers BadPack)) (Answers BadStorage) ≡ guard_of g w
+      → pick x (pick y (pick z no_refusal (Err BadHeld)) (Err BadPack)) (Err BadStorage) ≡ guard_of g w
   unfolding guard_of
-  told x y z q r s = λ i. pick (sym q i) (pick (sym r i) (pick (sym s i) Passes (Answers BadHeld)) (Answers BadPack)) (Answers BadStorage)
+  told x y z q r s = λ i. pick (sym q i) (pick (sym r i) (pick (sym s i) no_refusal (Err BadHeld)) (Err BadPack)) (Err BadStorage)
 
-  pub guard_2 : a ≡ false → Answers BadStorage ≡ guard_of g w
+  pub guard_2 : a ≡ false → Err BadStorage ≡ guard_of g w
   guard_2 e = told false _ _ (sym p ∙ e) refl refl
 
   module _ (e : a ≡ true) (b : Bool) (q : b ≡ pack_fits g (length w.cells)) where
-    pub guard_3 : b ≡ false → Answers BadPack ≡ guard_of g w
+    pub guard_3 : b ≡ false → Err BadPack ≡ guard_of g w
     guard_3 f = told true false _ (sym p ∙ e) (sym q ∙ f) refl
 
     module _ (f : b ≡ true) (c : Bool) (r : c ≡ held_fits g w) where
-      pub guard_4 : c ≡ false → Answers BadHeld ≡ guard_of g w
+      pub guard_4 : c ≡ false → Err BadHeld ≡ guard_of g w
       guard_4 h = told true true false (sym p ∙ e) (sym q ∙ f) (sym r ∙ h)
 
-      pub guard_passes : c ≡ true → Passes ≡ guard_of g w
+      pub guard_passes : c ≡ true → no_refusal ≡ guard_of g w
       guard_passes h = told true true true (sym p ∙ e) (sym q ∙ f) (sym r ∙ h)
 
 -- the same for bytes that encode no held state
@@ -132,56 +130,56 @@ unfolding overlay
 two_bytes s h = sets-eq (0x00 ∷ 0x20 ∷ []) s 68 (omega arith)
 
 module _ (w : World) (x : Hears) where
-  pub first_obeyed : (key next : ℕ) (t : Tested) (d : Word) → t ≡ Obey d → x ≡ hears AllowanceUsed (world (beginning w.held key next) w.storage w.cells)
+  pub first_obeyed : (key next : ℕ) (t : Result Directive Cause) (d : Word) → t ≡ Ok (Obey d) → x ≡ hears AllowanceUsed (world (beginning w.held key next) w.storage w.cells)
       → x ≡ first_word w key next t
   unfolding first_word
   first_obeyed key next t d e p = p ∙ ap (first_word w key next) (sym e)
 
-  pub first_jump : (key next : ℕ) (t : Tested) (a : ℕ) → t ≡ Jump a → x ≡ refuses_start w → x ≡ first_word w key next t
+  pub first_jump : (key next : ℕ) (t : Result Directive Cause) (a : ℕ) → t ≡ Ok (Jump a) → x ≡ refuses_start w → x ≡ first_word w key next t
   unfolding first_word
   first_jump key next t a e p = p ∙ ap (first_word w key next) (sym e)
 
-  pub first_bad : (key next : ℕ) (t : Tested) (cause : Cause) → t ≡ Bad cause → x ≡ refuses_start w → x ≡ first_word w key next t
+  pub first_bad : (key next : ℕ) (t : Result Directive Cause) (cause : Cause) → t ≡ Err cause → x ≡ refuses_start w → x ≡ first_word w key next t
   unfolding first_word
   first_bad key next t cause e p = p ∙ ap (first_word w key next) (sym e)
 
-  pub begins_refused : (b : Begun) → b ≡ Refused → x ≡ refuses_start w → x ≡ begins w b
+  pub begins_refused : (b : Option (ℕ × ℕ)) → b ≡ None → x ≡ refuses_start w → x ≡ begins w b
   unfolding begins
   begins_refused b e p = p ∙ ap (begins w) (sym e)
 
-  pub begins_first : (b : Begun) (key first n : ℕ) → b ≡ Begins key first → n ≡ along first 0 → x ≡ first_word w key n (tested w.storage n false) → x ≡ begins w b
+  pub begins_first : (b : Option (ℕ × ℕ)) (key first n : ℕ) → b ≡ Some (key, first) → n ≡ along first 0 → x ≡ first_word w key n (tested w.storage n false) → x ≡ begins w b
   unfolding begins
   begins_first b key first n e q p = p ∙ ap (λ (k : ℕ). first_word w key k (tested w.storage k false)) q ∙ ap (begins w) (sym e)
 
 -- ---- what start and go tell, by the guard
 
-module _ (g : Shape) (w : World) (v : Guarded) (p : v ≡ guard_of g w) where
-  pub start_refused : (a : Answer) → v ≡ Answers a → hears a w ≡ starts g w
+module _ (g : Shape) (w : World) (v : Result (Unit {0}) Answer) (p : v ≡ guard_of g w) where
+  pub start_refused : (a : Answer) → v ≡ Err a → hears a w ≡ starts g w
   unfolding starts guards
-  start_refused a e = ap (λ (x : Guarded). guards x w (pick w.held.channel.going (hears ChainGoing w) (begins w (begun_by w.storage)))) (sym e ∙ p)
+  start_refused a e = ap (λ (x : Result (Unit {0}) Answer). guards x w (pick w.held.channel.going (hears ChainGoing w) (begins w (begun_by w.storage)))) (sym e ∙ p)
 
-  start-passed : (b : Bool) → v ≡ Passes → w.held.channel.going ≡ b → pick b (hears ChainGoing w) (begins w (begun_by w.storage)) ≡ starts g w
+  start-passed : (b : Bool) → v ≡ no_refusal → w.held.channel.going ≡ b → pick b (hears ChainGoing w) (begins w (begun_by w.storage)) ≡ starts g w
   unfolding starts guards
   start-passed b e q = λ i. guards ((sym e ∙ p) i) w (pick (sym q i) (hears ChainGoing w) (begins w (begun_by w.storage)))
 
-  pub start_going : v ≡ Passes → w.held.channel.going ≡ true → hears ChainGoing w ≡ starts g w
+  pub start_going : v ≡ no_refusal → w.held.channel.going ≡ true → hears ChainGoing w ≡ starts g w
   start_going e q = start-passed true e q
 
-  pub start-begins : v ≡ Passes → w.held.channel.going ≡ false → (x : Hears) → x ≡ begins w (begun_by w.storage) → x ≡ starts g w
+  pub start-begins : v ≡ no_refusal → w.held.channel.going ≡ false → (x : Hears) → x ≡ begins w (begun_by w.storage) → x ≡ starts g w
   start-begins e q x r = r ∙ start-passed false e q
 
-  pub go_refused : (n : ℕ) (a : Answer) → v ≡ Answers a → hears a w ≡ goes g n w
+  pub go_refused : (n : ℕ) (a : Answer) → v ≡ Err a → hears a w ≡ goes g n w
   unfolding goes guards
-  go_refused n a e = ap (λ (x : Guarded). guards x w (pick w.held.channel.going (ran (run g n w)) (hears NoChain w))) (sym e ∙ p)
+  go_refused n a e = ap (λ (x : Result (Unit {0}) Answer). guards x w (pick w.held.channel.going (ran (run g n w)) (hears NoChain w))) (sym e ∙ p)
 
-  go_passed : (n : ℕ) (b : Bool) → v ≡ Passes → w.held.channel.going ≡ b → pick b (ran (run g n w)) (hears NoChain w) ≡ goes g n w
+  go_passed : (n : ℕ) (b : Bool) → v ≡ no_refusal → w.held.channel.going ≡ b → pick b (ran (run g n w)) (hears NoChain w) ≡ goes g n w
   unfolding goes guards
   go_passed n b e q = λ i. guards ((sym e ∙ p) i) w (pick (sym q i) (ran (run g n w)) (hears NoChain w))
 
-  pub go_idle : (n : ℕ) → v ≡ Passes → w.held.channel.going ≡ false → hears NoChain w ≡ goes g n w
+  pub go_idle : (n : ℕ) → v ≡ no_refusal → w.held.channel.going ≡ false → hears NoChain w ≡ goes g n w
   go_idle n e q = go_passed n false e q
 
-  pub go_runs : (n : ℕ) → v ≡ Passes → w.held.channel.going ≡ true → (h k : Held) (a : Answer) (s c : List ℕ) → world h s c ≡ run g n w
+  pub go_runs : (n : ℕ) → v ≡ no_refusal → w.held.channel.going ≡ true → (h k : Held) (a : Answer) (s c : List ℕ) → world h s c ≡ run g n w
       → a ≡ pick h.channel.going AllowanceUsed ChainEnded → k ≡ h → hears a (world k s c) ≡ goes g n w
   unfolding ran
   go_runs n e q h k a s c r t u = hears_eq t u refl refl ∙ ap ran r ∙ go_passed n true e q

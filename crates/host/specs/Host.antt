@@ -1,7 +1,6 @@
 -- Document 01, "What the host hears"; REFERENCE 9: the answers, the refusals in their order, a start, and going on.
-use Rattle.std.specs.Prelude.{ℕ, Bool, true, false, [], ◌∷◌, length}
+use Rattle.std.specs.Prelude.{ℕ, Bool, true, false, [], ◌∷◌, length, Some, None, Ok, Err, Result, Option}
 use Rattle.cells.specs.Cells.{pick, overlay}
-use Rattle.words.specs.declared.{Begun.Begun, Tested.Tested}
 use Rattle.words.specs.Words.{along, begun_by, tested}
 use Rattle.pack.specs.declared.{Shape.Shape}
 use Rattle.pack.specs.Pack.{pack_fits}
@@ -11,7 +10,8 @@ use Rattle.channel.specs.Channel.{World, world}
 use Rattle.chain.specs.Step.{run, storage_fits, held_fits}
 -- Answer: the table's, each below with its number. Guarded, what the refusals of any call come to: Passes, or Answers
 -- answer. (`Heard`, in contracts alone: answer, held.)
-use Rattle.host.specs.declared.{Answer.Answer, Guarded.Guarded}
+use Rattle.host.specs.declared.{Answer.Answer}
+use Rattle.words.specs.declared.{Directive.Directive, Cause.Cause}
 
 -- document 01's number of each answer
 unfoldable pub answer_no : Answer → ℕ
@@ -32,28 +32,32 @@ pub record Hears : Type 0 where
 abbrev pub hears : Answer → World → Hears
 hears a w = record { answer = a; left = w }
 
+-- none of the refusals of any call
+abbrev pub no_refusal : Result (Unit {0}) Answer
+no_refusal = Ok tt
+
 -- ---- refusals 2, 3 and 4, in order
-unfoldable pub guard_of : Shape → World → Guarded
+unfoldable pub guard_of : Shape → World → Result (Unit {0}) Answer
 guard_of g w =
     pick (storage_fits (length w.storage))
     (pick (pack_fits g (length w.cells))
-    (pick (held_fits g w) Guarded.Passes (Guarded.Answers Answer.BadHeld))
-    (Guarded.Answers Answer.BadPack))
-    (Guarded.Answers Answer.BadStorage)
+    (pick (held_fits g w) no_refusal (Err Answer.BadHeld))
+    (Err Answer.BadPack))
+    (Err Answer.BadStorage)
 
 -- bytes that encode no held state: refusal 4, in its place after 2 and 3
 unfoldable pub wrong_held : Shape → ℕ → ℕ → Answer
 wrong_held g s c = pick (storage_fits s) (pick (pack_fits g c) Answer.BadHeld Answer.BadPack) Answer.BadStorage
 
 -- a refusal leaves all unchanged
-unfoldable pub guards : Guarded → World → Hears → Hears
-guards Guarded.Passes w x = x
-guards (Guarded.Answers a) w x = hears a w
+unfoldable pub guards : Result (Unit {0}) Answer → World → Hears → Hears
+guards (Ok tt) w x = x
+guards (Err a) w x = hears a w
 
 -- what holds of the words of a call that passes: a refused one runs none
-unfoldable pub if_passes : Guarded → Bool → Bool
-if_passes Guarded.Passes b = b
-if_passes (Guarded.Answers a) b = true
+unfoldable pub if_passes : Result (Unit {0}) Answer → Bool → Bool
+if_passes (Ok tt) b = b
+if_passes (Err a) b = true
 
 -- ---- a start
 
@@ -70,14 +74,14 @@ beginning h key next = record {
 }
 
 -- the first word is tested, and nothing runs
-unfoldable pub first_word : World → ℕ → ℕ → Tested → Hears
-first_word w key next (Tested.Obey d) = hears Answer.AllowanceUsed (world (beginning w.held key next) w.storage w.cells)
-first_word w key next (Tested.Jump a) = refuses_start w
-first_word w key next (Tested.Bad cause) = refuses_start w
+unfoldable pub first_word : World → ℕ → ℕ → Result Directive Cause → Hears
+first_word w key next (Ok (Directive.Obey d)) = hears Answer.AllowanceUsed (world (beginning w.held key next) w.storage w.cells)
+first_word w key next (Ok (Directive.Jump a)) = refuses_start w
+first_word w key next (Err cause) = refuses_start w
 
-unfoldable pub begins : World → Begun → Hears
-begins w (Begun.Begins key first) = first_word w key (along first 0) (tested w.storage (along first 0) false)
-begins w Begun.Refused = refuses_start w
+unfoldable pub begins : World → Option (ℕ × ℕ) → Hears
+begins w (Some (key, first)) = first_word w key (along first 0) (tested w.storage (along first 0) false)
+begins w None = refuses_start w
 
 -- 7: with one going
 unfoldable pub starts : Shape → World → Hears

@@ -9,10 +9,10 @@ ghost use Rattle.channel.specs.Channel.{world};
 ghost use Rattle.chain.specs.Step.{least_storage, storage_fits, position_fits, channel_fits, selection_fits, orders_fit, held_fits};
 ghost use Rattle.host.specs.Host.{hears, guard_of, wrong_held, refuses_start, beginning, first_word, begins, starts, goes, answer_no};
 
-use held::{Channel, Held, Orders, Position, Selection};
+use held::{Channel, Held, Orders, Position};
 use hunt::Spot;
 use pack::Shape;
-use words::{Begun, Tested};
+use words::Directive;
 
 // Refusal 2's limits, and 4's on key, next address and tally.
 const LEAST_STORAGE: usize = 80;
@@ -40,13 +40,6 @@ pub enum Answer {
     BadStart,
     NoChain,
     ChainGoing,
-}
-
-// What the refusals of any call come to.
-#[derive(Clone, Copy)]
-pub enum Guarded {
-    Passes,
-    Answers(Answer),
 }
 
 // An answer, and what the box holds then.
@@ -92,12 +85,12 @@ fn channel_fits(c: Channel) -> bool
 }
 
 // R0 and a marker are told apart here: in a function of its own their tag and cell were read as one number, with a byte that nothing sets (DECISIONS 71).
-fn selection_fits(track: &[u16], o: Orders, x: Selection) -> bool
+fn selection_fits(track: &[u16], o: Orders, x: Option<Spot>) -> bool
     ensures { result ≡ selection_fits (marks track.now) o x }
 {
     match x {
-        Selection::Nothing => !table::rule_of(o.before).selects,
-        Selection::On(spot) => match spot {
+        None => !table::rule_of(o.before).selects,
+        Some(spot) => match spot {
             Spot::R0 => true,
             Spot::Marker(p) => hunt::is_marker(track, p),
         },
@@ -146,19 +139,19 @@ pub fn wrong_held(g: Shape, storage: usize, count: usize) -> Answer
 }
 
 // Refusals 2, 3 and 4, in order.
-fn guard(g: Shape, h: Held, storage: &[u8], cells: &[u16]) -> Guarded
+fn guard(g: Shape, h: Held, storage: &[u8], cells: &[u16]) -> Result<(), Answer>
     ensures { result ≡ guard_of g (world h storage.now cells.now) }
 {
     if !storage_fits(storage.len()) {
-        return Guarded::Answers(Answer::BadStorage);
+        return Err(Answer::BadStorage);
     }
     if !pack::pack_fits(g, cells.len()) {
-        return Guarded::Answers(Answer::BadPack);
+        return Err(Answer::BadPack);
     }
     if !held_fits(g, h, cells) {
-        return Guarded::Answers(Answer::BadHeld);
+        return Err(Answer::BadHeld);
     }
-    Guarded::Passes
+    Ok(())
 }
 
 // Answer 5.
@@ -199,12 +192,12 @@ fn first_word(h: Held, key: u8, next: u32, storage: &mut [u8]) -> Heard
         ≡ first_word (world h storage.old c) key next (tested storage.old next false) }
 {
     match words::test(storage, next, false) {
-        Tested::Obey(_) => Heard {
+        Ok(Directive::Obey(_)) => Heard {
             answer: Answer::AllowanceUsed,
             held: begun(h, key, next),
         },
-        Tested::Jump(_) => refuse(h, storage),
-        Tested::Bad(_) => refuse(h, storage),
+        Ok(Directive::Jump(_)) => refuse(h, storage),
+        Err(_) => refuse(h, storage),
     }
 }
 
@@ -214,8 +207,8 @@ fn begin(h: Held, storage: &mut [u8]) -> Heard
         ≡ begins (world h storage.old c) (begun_by storage.old) }
 {
     match words::address_word(storage) {
-        Begun::Begins { key, first } => first_word(h, key, words::advanced(first, 0), storage),
-        Begun::Refused => refuse(h, storage),
+        Some((key, first)) => first_word(h, key, words::advanced(first, 0), storage),
+        None => refuse(h, storage),
     }
 }
 
@@ -224,7 +217,7 @@ pub fn start(g: Shape, h: Held, storage: &mut [u8], cells: &[u16]) -> Heard
     ensures { hears result.answer (world result.held storage.new cells.now)
         ≡ starts g (world h storage.old cells.now) }
 {
-    if let Guarded::Answers(a) = guard(g, h, storage, cells) {
+    if let Err(a) = guard(g, h, storage, cells) {
         return Heard { answer: a, held: h };
     }
     if h.channel.going {
@@ -256,7 +249,7 @@ pub fn go(g: Shape, h: Held, storage: &mut [u8], cells: &mut [u16], allowance: u
     ensures { hears result.answer (world result.held storage.new cells.new)
         ≡ goes g allowance (world h storage.old cells.old) }
 {
-    if let Guarded::Answers(a) = guard(g, h, storage, cells) {
+    if let Err(a) = guard(g, h, storage, cells) {
         return Heard { answer: a, held: h };
     }
     if !h.channel.going {

@@ -12,20 +12,19 @@ use lib.Dec.{ltb}
 use Rattle.cells.specs.Cells.{track_cells, marks}
 use Rattle.cells.proofs.Marks.{length-marks}
 use Rattle.cells.proofs.Tests.{pick_all}
-use Rattle.hunt.specs.declared.{Found.Found, Spot.Spot, Next.Next}
-use Rattle.hunt.specs.declared.Found.TheVariants.{At, Nothing}
+use Rattle.hunt.specs.declared.{Spot.Spot}
 use Rattle.hunt.specs.declared.Spot.TheVariants.{R0, Marker}
-use Rattle.hunt.specs.declared.Next.TheVariants.{ComesTo, NoMarker}
 use Rattle.hunt.specs.Hunt.{WholeTrack, scan, hunt, spot_fits, past_index, ahead_or, next_record, next_id, count_first, spaced_to, space_record}
+use Rattle.std.specs.Prelude.{Some, None, Option}
 
 -- found, or come to, a record of the track
-abbrev pub FoundOn : List Bool → Found → Type 0
-FoundOn m (At p) = get_or m p false ≡ true
-FoundOn m Nothing = Unit {0}
+abbrev pub FoundOn : List Bool → Option ℕ → Type 0
+FoundOn m (Some p) = get_or m p false ≡ true
+FoundOn m None = Unit {0}
 
-abbrev pub NextOn : List Bool → Next → Type 0
-NextOn m (ComesTo spot n) = spot_fits m spot ≡ true
-NextOn m NoMarker = Unit {0}
+abbrev pub NextOn : List Bool → Option (Spot × ℕ) → Type 0
+NextOn m (Some (spot, n)) = spot_fits m spot ≡ true
+NextOn m None = Unit {0}
 
 -- ---- a hunt ends at a marker
 
@@ -40,20 +39,20 @@ hunt_on : (m : List Bool) (p : ℕ) → FoundOn m (hunt m p)
 unfolding hunt
 hunt_on m p = scan_on m (drop p m) p (λ i e. sym (get_or-drop p m i false) ∙ e)
 
-ahead_on : (m : List Bool) (f : Found) (x : Next) → FoundOn m f → NextOn m x → NextOn m (ahead_or f x)
+ahead_on : (m : List Bool) (f : Option ℕ) (x : Option (Spot × ℕ)) → FoundOn m f → NextOn m x → NextOn m (ahead_or f x)
 unfolding ahead_or spot_fits
-ahead_on m (At p) x h k = h
-ahead_on m Nothing x h k = k
+ahead_on m (Some p) x h k = h
+ahead_on m None x h k = k
 
 -- past the index it is the record of the first marker
-past_is : (p : ℕ) → past_index (At p) ≡ ComesTo (Marker p) 1
+past_is : (p : ℕ) → past_index (Some p) ≡ Some (Marker p, 1)
 unfolding past_index
 past_is p = refl
 
-past_on : (m : List Bool) (f : Found) → FoundOn m f → NextOn m (past_index f)
+past_on : (m : List Bool) (f : Option ℕ) → FoundOn m f → NextOn m (past_index f)
 unfolding past_index spot_fits
-past_on m (At p) h = h
-past_on m Nothing h = tt
+past_on m (Some p) h = h
+past_on m None h = tt
 
 -- ---- the record that is come to
 
@@ -61,7 +60,7 @@ pub next_on : (m : List Bool) (p : ℕ) → NextOn m (next_record m p)
 unfolding next_record
 next_on m p = ahead_on m (hunt m p) _ (hunt_on m p) (past_on m (hunt m 7) (hunt_on m 7))
 
-pub r0_on : (m : List Bool) (n : ℕ) → NextOn m (ComesTo R0 n)
+pub r0_on : (m : List Bool) (n : ℕ) → NextOn m (Some (R0, n))
 unfolding spot_fits
 r0_on m n = refl
 
@@ -84,10 +83,10 @@ module _ (t : List ℕ) (w : WholeTrack t) where
   spot_in R0 e = omega arith
   spot_in (Marker p) e = omega (arith, inside (marks t) p e, length-marks t, w.long)
 
-  pub next_in : (x : Next) → NextOn (marks t) x → spaced_to x ≤ track_cells
+  pub next_in : (x : Option (Spot × ℕ)) → NextOn (marks t) x → spaced_to x ≤ track_cells
   unfolding spaced_to
-  next_in (ComesTo spot n) h = spot_in spot h
-  next_in NoMarker h = omega arith
+  next_in (Some (spot, n)) h = spot_in spot h
+  next_in None h = omega arith
 
 -- the place after Space Record
 pub space_in : (t : List ℕ) (p : ℕ) (b : Bool) → WholeTrack t → space_record (marks t) p b ≤ track_cells

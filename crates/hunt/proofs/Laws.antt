@@ -14,28 +14,27 @@ use borrow.Author.Tests.{le-leb, lt-ltb, le-ltb, eqb-false, not-true}
 use Rattle.cells.specs.Cells.{pick, both, mark_at, marks}
 use Rattle.cells.proofs.Marks.{length-marks, get_or-marks, mark_here, mark_none, mark_low}
 use Rattle.cells.proofs.Tests.{first_of, second_of}
-use Rattle.hunt.specs.declared.{Found.Found, Next.Next}
-use Rattle.hunt.specs.declared.Found.TheVariants.{At, Nothing}
 use Rattle.hunt.specs.declared.Spot.TheVariants.{R0, Marker}
-use Rattle.hunt.specs.declared.Next.TheVariants.{ComesTo, NoMarker}
 use Rattle.hunt.specs.Hunt.{markerless, scan, hunt, past_index, ahead_or, next_record, next_id, spaced_to, space_record}
+use Rattle.std.specs.Prelude.{Some, None, Option}
+use Rattle.hunt.specs.declared.{Spot.Spot}
 
 module _ (t : List ℕ) (p : ℕ) where
   -- by what stands in cell p
-  hunt_by : (b : Bool) → mark_at t p ≡ b → p < length t → hunt (marks t) p ≡ pick b (At p) (hunt (marks t) (suc p))
+  hunt_by : (b : Bool) → mark_at t p ≡ b → p < length t → hunt (marks t) p ≡ pick b (Some p) (hunt (marks t) (suc p))
   unfolding hunt scan
   hunt_by b e h =
       let k : p < length (marks t) = omega (arith, length-marks t) in
       ap (λ (m : List Bool). scan m p) (drop-cons (marks t) p false k)
-      ∙ ap (λ (x : Bool). pick x (At p) (scan (drop (suc p) (marks t)) (suc p))) (get_or-marks t p ∙ e)
+      ∙ ap (λ (x : Bool). pick x (Some p) (scan (drop (suc p) (marks t)) (suc p))) (get_or-marks t p ∙ e)
 
-  pub hunt_here : p < length t → 7 ≤ p → get_or t p 0 ≡ 512 → hunt (marks t) p ≡ At p
+  pub hunt_here : p < length t → 7 ≤ p → get_or t p 0 ≡ 512 → hunt (marks t) p ≡ Some p
   hunt_here h k e = hunt_by true (mark_here t p k e) h
 
   pub hunt_on : p < length t → (get_or t p 0 ≡ 512 → ⊥) → hunt (marks t) p ≡ hunt (marks t) (p + 1)
   hunt_on h e = hunt_by false (mark_none t p e) h ∙ ap (hunt (marks t)) (sym (add-one p))
 
-  pub hunt_end : length t ≤ p → hunt (marks t) p ≡ Nothing
+  pub hunt_end : length t ≤ p → hunt (marks t) p ≡ None
   unfolding hunt scan
   hunt_end h =
       let k : length (marks t) ≤ p = omega (arith, length-marks t) in
@@ -70,7 +69,7 @@ over t (suc n) p q b e h =
     ∙ over t n (suc p) q (second_of (not (eqb x 512)) _ d) (omega arith) h
 
 -- a hunt from p may begin at q, if the cells between are such
-pub hunt_bare : (t : List ℕ) (p q : ℕ) (f : Found) → hunt (marks t) p ≡ f → p ≤ q → q ≤ length t → markerless (take (q - p) (drop p t)) ≡ true → hunt (marks t) q ≡ f
+pub hunt_bare : (t : List ℕ) (p q : ℕ) (f : Option ℕ) → hunt (marks t) p ≡ f → p ≤ q → q ≤ length t → markerless (take (q - p) (drop p t)) ≡ true → hunt (marks t) q ≡ f
 hunt_bare t p q f e h k b = sym (over t (q - p) p q b (omega arith) k) ∙ e
 
 -- is a marker here: below 7 none, off the track none
@@ -84,33 +83,33 @@ mark_is t p h = ap (λ (b : Bool). both b (eqb (get_or t p 0) 512)) (sym (le-leb
 -- ---- the next record, by what the hunt finds
 
 module _ (m : List Bool) (p : ℕ) where
-  pub next_ahead : (q : ℕ) → hunt m p ≡ At q → ComesTo (Marker q) 0 ≡ next_record m p
+  pub next_ahead : (q : ℕ) → hunt m p ≡ Some q → Some (Marker q, 0) ≡ next_record m p
   unfolding next_record ahead_or
-  next_ahead q e = sym (ap (λ (f : Found). ahead_or f (past_index (hunt m 7))) e)
+  next_ahead q e = sym (ap (λ (f : Option ℕ). ahead_or f (past_index (hunt m 7))) e)
 
-  past : (f : Found) → hunt m p ≡ Nothing → hunt m 7 ≡ f → past_index f ≡ next_record m p
+  past : (f : Option ℕ) → hunt m p ≡ None → hunt m 7 ≡ f → past_index f ≡ next_record m p
   unfolding next_record ahead_or
-  past f e g = sym (ap (λ (x : Found). ahead_or x (past_index (hunt m 7))) e ∙ ap past_index g)
+  past f e g = sym (ap (λ (x : Option ℕ). ahead_or x (past_index (hunt m 7))) e ∙ ap past_index g)
 
-  pub next_past : (q : ℕ) → hunt m p ≡ Nothing → hunt m 7 ≡ At q → ComesTo (Marker q) 1 ≡ next_record m p
+  pub next_past : (q : ℕ) → hunt m p ≡ None → hunt m 7 ≡ Some q → Some (Marker q, 1) ≡ next_record m p
   unfolding past_index
-  next_past q e g = past (At q) e g
+  next_past q e g = past (Some q) e g
 
-  pub next_none : hunt m p ≡ Nothing → hunt m 7 ≡ Nothing → NoMarker ≡ next_record m p
+  pub next_none : hunt m p ≡ None → hunt m 7 ≡ None → None ≡ next_record m p
   unfolding past_index
-  next_none e g = past Nothing e g
+  next_none e g = past None e g
 
-  pub id_low : p < 7 → ComesTo R0 0 ≡ next_id m p
+  pub id_low : p < 7 → Some (R0, 0) ≡ next_id m p
   unfolding next_id
-  id_low h = ap (λ (b : Bool). pick b (ComesTo R0 0) (ahead_or (hunt m p) (ComesTo R0 1))) (sym (lt-ltb p 7 h))
+  id_low h = ap (λ (b : Bool). pick b (Some (R0, 0)) (ahead_or (hunt m p) (Some (R0, 1)))) (sym (lt-ltb p 7 h))
 
-  pub id_high : (f : Found) → 7 ≤ p → hunt m p ≡ f → ahead_or f (ComesTo R0 1) ≡ next_id m p
+  pub id_high : (f : Option ℕ) → 7 ≤ p → hunt m p ≡ f → ahead_or f (Some (R0, 1)) ≡ next_id m p
   unfolding next_id
   id_high f h e =
-      ap (λ (x : Found). ahead_or x (ComesTo R0 1)) (sym e)
-      ∙ ap (λ (b : Bool). pick b (ComesTo R0 0) (ahead_or (hunt m p) (ComesTo R0 1))) (sym (le-ltb p 7 h))
+      ap (λ (x : Option ℕ). ahead_or x (Some (R0, 1))) (sym e)
+      ∙ ap (λ (b : Bool). pick b (Some (R0, 0)) (ahead_or (hunt m p) (Some (R0, 1)))) (sym (le-ltb p 7 h))
 
-  pub spaced_to_lem : (b : Bool) (n : Next) → b ≡ false → next_record m p ≡ n → spaced_to n ≡ space_record m p b
+  pub spaced_to_lem : (b : Bool) (n : Option (Spot × ℕ)) → b ≡ false → next_record m p ≡ n → spaced_to n ≡ space_record m p b
   unfolding space_record
   spaced_to_lem b n g e = ap spaced_to (sym e) ∙ ap (λ (x : Bool). pick x 7 (spaced_to (next_record m p))) (sym g)
 

@@ -10,25 +10,11 @@ const R0_FIRST: u32 = cells::FIRST_MARKER as u32;
 // So many cells are passed over at once where none of them holds a marker.
 const STRIDE: u16 = 16;
 
-// The cell of a marker, or that there is none.
-#[derive(Clone, Copy)]
-pub enum Found {
-    At(u16),
-    Nothing,
-}
-
 // A record: R0, or the one whose marker is in a cell.
 #[derive(Clone, Copy)]
 pub enum Spot {
     R0,
     Marker(u16),
-}
-
-// Where the head comes to: a record, with the index points passed on the way, or past the index with no marker at all.
-#[derive(Clone, Copy)]
-pub enum Next {
-    ComesTo(Spot, u8),
-    NoMarker,
 }
 
 // Whether a cell of a track holds a marker.
@@ -82,45 +68,45 @@ fn pass_over(track: &[u16], from: u16) -> u16
 }
 
 // The first marker at or after a place.
-pub fn next_marker(track: &[u16], place: u16) -> Found
+pub fn next_marker(track: &[u16], place: u16) -> Option<u16>
     requires { WholeTrack track.now }
     ensures { result ≡ hunt (marks track.now) place }
 {
     let mut i = pass_over(track, from_first(place));
     while i < cells::TRACK_END {
         if track[i as usize] == cells::MARKER {
-            return Found::At(i);
+            return Some(i);
         }
         i += 1;
     }
-    Found::Nothing
+    None
 }
 
 // The next record: the first marker at or after the place, else past the index.
-pub fn next_record(track: &[u16], place: u16) -> Next
+pub fn next_record(track: &[u16], place: u16) -> Option<(Spot, u8)>
     requires { WholeTrack track.now }
     ensures { result ≡ next_record (marks track.now) place }
 {
-    if let Found::At(p) = next_marker(track, place) {
-        return Next::ComesTo(Spot::Marker(p), 0);
+    if let Some(p) = next_marker(track, place) {
+        return Some((Spot::Marker(p), 0));
     }
     match next_marker(track, cells::FIRST_MARKER) {
-        Found::At(p) => Next::ComesTo(Spot::Marker(p), 1),
-        Found::Nothing => Next::NoMarker,
+        Some(p) => Some((Spot::Marker(p), 1)),
+        None => None,
     }
 }
 
 // The record that Search ID takes.
-pub fn next_id(track: &[u16], place: u16) -> Next
+pub fn next_id(track: &[u16], place: u16) -> Option<(Spot, u8)>
     requires { WholeTrack track.now }
     ensures { result ≡ next_id (marks track.now) place }
 {
     if place < cells::FIRST_MARKER {
-        return Next::ComesTo(Spot::R0, 0);
+        return Some((Spot::R0, 0));
     }
     match next_marker(track, place) {
-        Found::At(p) => Next::ComesTo(Spot::Marker(p), 0),
-        Found::Nothing => Next::ComesTo(Spot::R0, 1),
+        Some(p) => Some((Spot::Marker(p), 0)),
+        None => Some((Spot::R0, 1)),
     }
 }
 
@@ -143,7 +129,7 @@ pub fn space_record(track: &[u16], place: u16, after_home: bool) -> u32
         return R0_FIRST;
     }
     match next_record(track, place) {
-        Next::ComesTo(spot, _) => count_first(spot),
-        Next::NoMarker => R0_FIRST,
+        Some((spot, _)) => count_first(spot),
+        None => R0_FIRST,
     }
 }

@@ -9,15 +9,14 @@ use native.Mathlib.Omega.{arith}
 use borrow.Author.Tests.{eq-eqb, ne_eqb, eqb-true}
 use Rattle.cells.specs.Cells.{track_cells, marks}
 use Rattle.cells.proofs.Tests.{first_of, second_of, first_picked, second_picked}
-use Rattle.areas.specs.declared.{Part.Part, Area.Area, Counts.Counts, CountRead.CountRead}
-use Rattle.areas.specs.declared.CountRead.TheVariants.{Reads, Fails}
+use Rattle.areas.specs.declared.{Part.Part, Area.Area, Counts.Counts}
 use Rattle.areas.specs.Areas.{readable, read_count, key_area, data_area}
-use Rattle.hunt.specs.declared.{Found.Found}
 use Rattle.hunt.specs.Hunt.{hunt}
 use Rattle.look.specs.declared.{Marked.Marked, Look.Look}
 use Rattle.look.specs.declared.Marked.TheVariants.{NoTrack}
 use Rattle.look.specs.declared.Look.TheVariants.{WrongCall, Readable, Unreadable, Absent, NotKnown}
 use Rattle.look.specs.Look.{marked_by, marked, marked_no, marker_call, looks_at, key_look, data_look, part_look, part_of, call_fits, look, look_no, numbers_left, looked, looked_of, area_call}
+use Rattle.std.specs.Prelude.{Some, None, Option}
 
 -- ---- markers
 
@@ -26,7 +25,7 @@ module _ (t : List ℕ) (place : ℕ) where
   unfolding marked
   no_track h = sym (second_picked (eqb (length t) track_cells) (marked_by (hunt (marks t) place)) NoTrack (ne_eqb (length t) track_cells h))
 
-  pub on_track_lem : (f : Found) → length t ≡ track_cells → f ≡ hunt (marks t) place → marked_by f ≡ marked t place
+  pub on_track_lem : (f : Option ℕ) → length t ≡ track_cells → f ≡ hunt (marks t) place → marked_by f ≡ marked t place
   unfolding marked
   on_track_lem f h e =
       ap marked_by e ∙ sym (first_picked (eqb (length t) track_cells) (marked_by (hunt (marks t) place)) NoTrack (eq-eqb (length t) track_cells h))
@@ -46,8 +45,8 @@ module _ (t : List ℕ) (a : Area) (b : Bool) (e : b ≡ readable t a) where
   unfolding looks_at
   is_unreadable g = sym (second_picked (readable t a) (Readable a) (Unreadable a) (sym e ∙ g))
 
-module _ (t : List ℕ) (c : ℕ) (r : CountRead) (e : r ≡ read_count t c) where
-  module _ (n : Counts) (f : r ≡ Reads n) where
+module _ (t : List ℕ) (c : ℕ) (r : Option Counts) (e : r ≡ read_count t c) where
+  module _ (n : Counts) (f : r ≡ Some n) where
     pub key_absent : n.kl ≡ 0 → Absent ≡ key_look t c (read_count t c)
     unfolding key_look
     key_absent h =
@@ -62,11 +61,11 @@ module _ (t : List ℕ) (c : ℕ) (r : CountRead) (e : r ≡ read_count t c) whe
     unfolding data_look
     data_there a x p q = q ∙ ap (looks_at t) p ∙ ap (data_look t c) (sym f ∙ e)
 
-  pub key_not_known : r ≡ Fails → NotKnown ≡ key_look t c (read_count t c)
+  pub key_not_known : r ≡ None → NotKnown ≡ key_look t c (read_count t c)
   unfolding key_look
   key_not_known f = ap (key_look t c) (sym f ∙ e)
 
-  pub data_not_known : r ≡ Fails → NotKnown ≡ data_look t c (read_count t c)
+  pub data_not_known : r ≡ None → NotKnown ≡ data_look t c (read_count t c)
   unfolding data_look
   data_not_known f = ap (data_look t c) (sym f ∙ e)
 

@@ -1,10 +1,9 @@
 -- A look at one track, without a box: where the next marker is, where an area lies, whether it is readable. Document 01, "What lies on a track" and "Where
 -- the head stands"; REFERENCE 10.3, 10.4. DECISIONS 65 to 68.
-use Rattle.std.specs.Prelude.{ℕ, Bool, List, [], ◌∷◌, length, eqb, leb}
+use Rattle.std.specs.Prelude.{ℕ, Bool, List, [], ◌∷◌, length, eqb, leb, Some, None, Option}
 use Rattle.cells.specs.Cells.{pick, both, either, track_cells, marks}
-use Rattle.areas.specs.declared.{Part.Part, Area.Area, CountRead.CountRead}
+use Rattle.areas.specs.declared.{Part.Part, Area.Area, Counts.Counts}
 use Rattle.areas.specs.Areas.{readable, home_area, count_area, read_count, key_area, data_area}
-use Rattle.hunt.specs.declared.{Found.Found}
 use Rattle.hunt.specs.Hunt.{hunt}
 -- Marked: Cell p, NoMarker from the place on, NoTrack. Look: WrongCall, Readable area, Unreadable area, Absent, NotKnown.
 use Rattle.look.specs.declared.{Marked.Marked, Look.Look}
@@ -12,9 +11,9 @@ use Rattle.look.specs.declared.{Marked.Marked, Look.Look}
 -- ---- markers
 
 -- what the hunt found on a whole track
-unfoldable pub marked_by : Found → Marked
-marked_by (Found.At p) = Marked.Cell p
-marked_by Found.Nothing = Marked.NoMarker
+unfoldable pub marked_by : Option ℕ → Marked
+marked_by (Some p) = Marked.Cell p
+marked_by None = Marked.NoMarker
 
 -- the first marker at or after a place
 unfoldable pub marked : List ℕ → ℕ → Marked
@@ -35,13 +34,13 @@ unfoldable pub looks_at : List ℕ → Area → Look
 looks_at t a = pick (readable t a) (Look.Readable a) (Look.Unreadable a)
 
 -- of the record whose count area is at c: where its key and data lie is not known unless that is readable; no key if KL = 0
-unfoldable pub key_look : List ℕ → ℕ → CountRead → Look
-key_look t c (CountRead.Reads n) = pick (eqb n.kl 0) Look.Absent (looks_at t (key_area c n))
-key_look t c CountRead.Fails = Look.NotKnown
+unfoldable pub key_look : List ℕ → ℕ → Option Counts → Look
+key_look t c (Some n) = pick (eqb n.kl 0) Look.Absent (looks_at t (key_area c n))
+key_look t c None = Look.NotKnown
 
-unfoldable pub data_look : List ℕ → ℕ → CountRead → Look
-data_look t c (CountRead.Reads n) = looks_at t (data_area c n)
-data_look t c CountRead.Fails = Look.NotKnown
+unfoldable pub data_look : List ℕ → ℕ → Option Counts → Look
+data_look t c (Some n) = looks_at t (data_area c n)
+data_look t c None = Look.NotKnown
 
 unfoldable pub part_look : List ℕ → ℕ → Part → Look
 part_look t c Part.Home = looks_at t home_area

@@ -5,8 +5,7 @@ ghost use Rattle.std.specs.Prelude.{◌≡◌, length};
 ghost use Rattle.areas.specs.Areas.{read_count};
 ghost use Rattle.look.specs.Look.{marked, marked_no, marker_call, looks_at, key_look, data_look, part_look, part_of, call_fits, lies, looked, looked_of, area_call};
 
-use areas::{Area, CountRead, Part};
-use hunt::Found;
+use areas::{Area, Part};
 
 // The numbers that an area is told in, and the last part.
 const AREA_NUMBERS: usize = 2;
@@ -42,8 +41,8 @@ fn next_marked(track: &[u16], place: u16) -> Marked
         return Marked::NoTrack;
     }
     match hunt::next_marker(track, place) {
-        Found::At(p) => Marked::Cell(p),
-        Found::Nothing => Marked::NoMarker,
+        Some(p) => Marked::Cell(p),
+        None => Marked::NoMarker,
     }
 }
 
@@ -79,13 +78,13 @@ fn look_key(track: &[u16], c: u16) -> Look
     ensures { result ≡ key_look track.now c (read_count track.now c) }
 {
     match areas::read_count(track, c) {
-        CountRead::Reads(n) => {
+        Some(n) => {
             if n.kl == 0 {
                 return Look::Absent;
             }
             look_at(track, areas::key_area(c, n))
         }
-        CountRead::Fails => Look::NotKnown,
+        None => Look::NotKnown,
     }
 }
 
@@ -94,8 +93,8 @@ fn look_data(track: &[u16], c: u16) -> Look
     ensures { result ≡ data_look track.now c (read_count track.now c) }
 {
     match areas::read_count(track, c) {
-        CountRead::Reads(n) => look_at(track, areas::data_area(c, n)),
-        CountRead::Fails => Look::NotKnown,
+        Some(n) => look_at(track, areas::data_area(c, n)),
+        None => Look::NotKnown,
     }
 }
 

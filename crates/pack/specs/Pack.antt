@@ -1,10 +1,10 @@
 -- Document 01, "What the box stands in for"; REFERENCE 2.1: a pack may be lent with 1 to 203 cylinders and 1 to 10 heads; its tracks lie in one list of
 -- cells, cylinder by cylinder, in each head by head (DECISIONS 15). "Commands"; REFERENCE 5.2: a seek's address.
-use Rattle.std.specs.Prelude.{ℕ, ◌*◌, ◌+◌, ◌<◌, ◌≤◌, Bool, ltb, leb, eqb, ◌≡◌, List, length}
+use Rattle.std.specs.Prelude.{ℕ, ◌*◌, ◌+◌, ◌<◌, ◌≤◌, Bool, ltb, leb, eqb, ◌≡◌, List, length, Ok, Err, Result}
 use Rattle.cells.specs.Cells.{pick, both, track_cells, part, overlay}
 use Rattle.rows.specs.declared.{Row.Row}
 -- Cylinder, Head: a number each, .0. Shape, what the host says of the pack: cylinders, heads. Sought, a seek's address: To cylinder head, or Fails row.
-use Rattle.pack.specs.declared.{Cylinder.Cylinder, Head.Head, Shape.Shape, Sought.Sought}
+use Rattle.pack.specs.declared.{Cylinder.Cylinder, Head.Head, Shape.Shape}
 
 abbrev pub most_cylinders : ℕ
 most_cylinders = 203
@@ -36,12 +36,12 @@ head_on g h = ltb h.0 g.heads
 -- ---- a seek's address, BB CC HH: where the head then stands, or the Unit Check row
 
 -- Seek and Seek Cylinder: BB = 0, CC and HH on the pack
-unfoldable pub seek_to : Shape → ℕ → Cylinder → Head → Sought
-seek_to g bb c h = pick (both (eqb bb 0) (both (cylinder_on g c) (head_on g h))) (Sought.To c h) (Sought.Fails Row.BadSeek)
+unfoldable pub seek_to : Shape → ℕ → Cylinder → Head → Result (Cylinder × Head) Row
+seek_to g bb c h = pick (both (eqb bb 0) (both (cylinder_on g c) (head_on g h))) (Ok (c, h)) (Err Row.BadSeek)
 
 -- Seek Head tests and uses HH only
-unfoldable pub seek_head : Shape → Cylinder → Head → Sought
-seek_head g c h = pick (head_on g h) (Sought.To c h) (Sought.Fails Row.BadSeek)
+unfoldable pub seek_head : Shape → Cylinder → Head → Result (Cylinder × Head) Row
+seek_head g c h = pick (head_on g h) (Ok (c, h)) (Err Row.BadSeek)
 
 -- a pack of a right size with the cells that its tracks have
 pub record WholePack (g : Shape) (cells : List ℕ) : Type 0 where

@@ -25,13 +25,6 @@ pub struct Shape {
     pub heads: u32,
 }
 
-// What a seek's address comes to: where the head then stands, or the Unit Check row.
-#[derive(Clone, Copy)]
-pub enum Sought {
-    To(Cylinder, Head),
-    Fails(Row),
-}
-
 // Whether a number is from 1 to the most.
 fn from_one_to(most: u32, n: u32) -> bool
     ensures { result ≡ from1_to most n }
@@ -56,29 +49,29 @@ pub fn pack_fits(g: Shape, count: usize) -> bool
 }
 
 // Where Seek and Seek Cylinder go.
-pub fn seek_to(g: Shape, bb: u16, c: Cylinder, h: Head) -> Sought
+pub fn seek_to(g: Shape, bb: u16, c: Cylinder, h: Head) -> Result<(Cylinder, Head), Row>
     ensures { result ≡ seek_to g bb c h }
 {
     if bb != 0 {
-        return Sought::Fails(Row::BadSeek);
+        return Err(Row::BadSeek);
     }
     if g.cylinders <= c.0 as u32 {
-        return Sought::Fails(Row::BadSeek);
+        return Err(Row::BadSeek);
     }
     if g.heads <= h.0 as u32 {
-        return Sought::Fails(Row::BadSeek);
+        return Err(Row::BadSeek);
     }
-    Sought::To(c, h)
+    Ok((c, h))
 }
 
 // Where Seek Head goes, from a cylinder.
-pub fn seek_head(g: Shape, c: Cylinder, h: Head) -> Sought
+pub fn seek_head(g: Shape, c: Cylinder, h: Head) -> Result<(Cylinder, Head), Row>
     ensures { result ≡ seek_head g c h }
 {
     if g.heads <= h.0 as u32 {
-        return Sought::Fails(Row::BadSeek);
+        return Err(Row::BadSeek);
     }
-    Sought::To(c, h)
+    Ok((c, h))
 }
 
 // The first cell of a track.

@@ -11,7 +11,6 @@ use Rattle.areas.specs.declared.{Counts.Counts}
 use Rattle.areas.specs.Areas.{counts_at}
 use Rattle.areas.proofs.Laws.{counts_are}
 use Rattle.pack.specs.declared.{Head.Head}
-use Rattle.command.specs.declared.Got.TheVariants.{Sees}
 use Rattle.command.specs.Command.{Seen, id_of, count_moved, gets, seen_of, areas_of, areas_read, sight, Sighted, end_turn_at, end_turn, ending_of, offered, read_turn}
 use Rattle.command.proofs.Seen.{count-lies, record_counts, record_key, record_body, key_lies, body_lies, home_seen, home_lies}
 use Rattle.table.specs.declared.{Names.Names}
@@ -22,6 +21,7 @@ use Rattle.ending.specs.Ending.{report_at}
 use Rattle.reads.specs.declared.{Filling.Filling}
 use Rattle.reads.specs.Inside.{LieIf, LieAll, Puts, start, count_given, key_given, body_given, parts, bytes_given, many_given}
 use Rattle.reads.proofs.Laws.{long, all_put, none_put}
+use Rattle.std.specs.Prelude.{Ok}
 
 -- ---- a count's 8 bytes are those of its cells but the flag's
 
@@ -71,7 +71,7 @@ module _ (t : List ℕ) (c : ℕ) (h : c + 11 ≤ length t) where
 
 -- ---- a record's bytes
 
-module _ (tr : Tracks) (h : Head) (c : ℕ) (counted key body : Bool) (n : Counts) (e : gets (Names.Count key body) tr h c ≡ Sees n) where
+module _ (tr : Tracks) (h : Head) (c : ℕ) (counted key body : Bool) (n : Counts) (e : gets (Names.Count key body) tr h c ≡ Ok n) where
   abbrev t : List ℕ
   t = tr h
 
@@ -117,10 +117,10 @@ module _ (t : Tracks) (j : Job) (s : Sighted t j) where
   abbrev on : List ℕ
   on = t j.task.head
 
-  sees_by : (m : Names) → j.names ≡ m → gets m t j.task.head j.task.place ≡ Sees j.counts
+  sees_by : (m : Names) → j.names ≡ m → gets m t j.task.head j.task.place ≡ Ok j.counts
   sees_by m p = ap (λ (x : Names). gets x t j.task.head j.task.place) (sym p) ∙ s.sees
 
-  gives_at : (m : Names) → gets m t j.task.head j.task.place ≡ Sees j.counts → (counted : Bool)
+  gives_at : (m : Names) → gets m t j.task.head j.task.place ≡ Ok j.counts → (counted : Bool)
       → offered m counted j.counts (seen_of t (areas_of m t j.task.head j.task.place)) ≡ bytes_given on counted m j.task.place j.counts
   unfolding offered bytes_given
   gives_at Names.Nothing e counted = refl

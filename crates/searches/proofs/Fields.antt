@@ -14,13 +14,13 @@ use Rattle.areas.specs.Areas.{count_area, key_area, counts_of, counts_at}
 use Rattle.compare.specs.declared.{Compared.Compared}
 use Rattle.compare.specs.Compare.{compared, compared_bytes, There}
 use Rattle.pack.specs.declared.{Head.Head}
-use Rattle.command.specs.declared.Got.TheVariants.{Sees}
 use Rattle.command.specs.Command.{Seen, id_of, gets, seen_of, Sighted, areas_of, areas_read, field_of, comparison}
 use Rattle.command.proofs.Seen.{area-bytes, count-lies, record_counts, key_lies, record_key, home_seen, home_lies}
 use Rattle.table.specs.declared.{Names.Names}
 use Rattle.turn.specs.Turn.{alone}
 use Rattle.command.specs.declared.{Job.Job}
 use Rattle.searches.specs.Field.{field_first, field_length}
+use Rattle.std.specs.Prelude.{Ok}
 
 -- ---- a field that lies on the track: so many bytes from a cell on
 
@@ -54,7 +54,7 @@ id_said (a ∷ b ∷ c ∷ d ∷ []) h = absurd (omega arith)
 id_said (a ∷ b ∷ c ∷ d ∷ e ∷ []) h = absurd (omega arith)
 id_said (a ∷ b ∷ c ∷ d ∷ e ∷ f ∷ l) h = λ i. high b c i ∷ low b c i ∷ high d e i ∷ low d e i ∷ byte_of f ∷ []
 
-module _ (t : List ℕ) (h : Head) (c : ℕ) (body : Bool) (n : Counts) (e : gets (Names.Count false body) (alone t) h c ≡ Sees n) where
+module _ (t : List ℕ) (h : Head) (c : ℕ) (body : Bool) (n : Counts) (e : gets (Names.Count false body) (alone t) h c ≡ Ok n) where
   id_there : id_of n.cc n.hh n.r ≡ bytes_of (part t (c + 1) 5)
   unfolding id_in counts_at part
   id_there =
@@ -67,19 +67,19 @@ module _ (t : List ℕ) (h : Head) (c : ℕ) (n : Counts) where
   abbrev seen_here : Names → Seen
   seen_here m = seen_of (alone t) (areas_of m (alone t) h c)
 
-  home_field : gets Names.HomeAddress (alone t) h c ≡ Sees n → Lying t (field_of Names.HomeAddress n (seen_here Names.HomeAddress)) 1 4
+  home_field : gets Names.HomeAddress (alone t) h c ≡ Ok n → Lying t (field_of Names.HomeAddress n (seen_here Names.HomeAddress)) 1 4
   unfolding field_of
   home_field e = record {
     there = ap (drop 1) (home_seen (alone t) h c) ∙ home_tail t;
     ends = omega (arith, home_lies (alone t) h c n e);
   }
 
-  id_field : (body : Bool) → gets (Names.Count false body) (alone t) h c ≡ Sees n
+  id_field : (body : Bool) → gets (Names.Count false body) (alone t) h c ≡ Ok n
       → Lying t (field_of (Names.Count false body) n (seen_here (Names.Count false body))) (c + 1) 5
   unfolding field_of
   id_field body e = record { there = id_there t h c body n e; ends = omega (arith, count-lies (alone t) h c false body n e) }
 
-  key_field : (body : Bool) → gets (Names.Count true body) (alone t) h c ≡ Sees n
+  key_field : (body : Bool) → gets (Names.Count true body) (alone t) h c ≡ Ok n
       → Lying t (field_of (Names.Count true body) n (seen_here (Names.Count true body))) (c + 11) n.kl
   unfolding field_of key_area
   key_field body e = record {
@@ -91,7 +91,7 @@ module _ (t : List ℕ) (h : Head) (c : ℕ) (n : Counts) where
       go (yes q) = omega (arith, count-lies (alone t) h c true body n e)
       go (no q) = key_lies (alone t) h c true body n e refl (omega arith)
 
-  field_by : (m : Names) → gets m (alone t) h c ≡ Sees n → Lying t (field_of m n (seen_here m)) (field_first m c) (field_length m n)
+  field_by : (m : Names) → gets m (alone t) h c ≡ Ok n → Lying t (field_of m n (seen_here m)) (field_first m c) (field_length m n)
   unfolding field_of field_first field_length bytes_of part
   field_by Names.Nothing e = record { there = refl; ends = omega arith }
   field_by Names.HomeAddress e = home_field e

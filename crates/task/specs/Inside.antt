@@ -1,14 +1,14 @@
 -- What the functions inside the crate promise one another. No rule that `command:Command` does not say.
-use Rattle.std.specs.Prelude.{ℕ, Bool, false}
+use Rattle.std.specs.Prelude.{ℕ, Bool, false, None, Some, Option}
 use Rattle.hunt.specs.Hunt.{count_first}
-use Rattle.held.specs.declared.{Selection.Selection}
 use Rattle.table.specs.declared.{Aim.Aim}
 use Rattle.table.specs.Table.{rule_of, serves_data, serves_key}
+use Rattle.hunt.specs.declared.{Spot.Spot}
 
 -- the place of the record selected, 0 if none is
-unfoldable pub selected_place : Selection → ℕ
-selected_place Selection.Nothing = 0
-selected_place (Selection.On spot) = count_first spot
+unfoldable pub selected_place : Option Spot → ℕ
+selected_place None = 0
+selected_place (Some spot) = count_first spot
 
 -- whether the command before serves one with this aim, as `command:Command.aimed` has it; the others ask for nobody
 unfoldable pub is_served : Aim → ℕ → Bool

@@ -1,21 +1,19 @@
 // Which record a command works on, by its row, the markers and what is held; or the row of the Unit Check table that ends it first.
 #![tactic(auto)]
 
-ghost use Rattle.std.specs.Prelude.{◌≡◌, ◌≤◌};
+ghost use Rattle.std.specs.Prelude.{◌≡◌, ◌≤◌, Some, None, Ok, Err};
 ghost use Rattle.cells.specs.Cells.{track_cells, marks, pick, either};
 ghost use Rattle.rows.specs.declared.{Row.Row};
 ghost use Rattle.hunt.specs.Hunt.{WholeTrack, count_first, spaced_to};
-ghost use Rattle.held.specs.declared.Selection.TheVariants.{Nothing, On};
 ghost use Rattle.command.specs.Command.{SelectedOn, equal_id, equal_id_or_key, home_done, record_written, task, marks_of, licensed, tallies, on_record, on_next, on_selected, to_next, to_served, aimed, unless_barred, plan_of};
 ghost use Rattle.task.specs.Inside.{selected_place, is_served};
 ghost use Rattle.table.specs.Table.{rule_of, looks};
 ghost use Rattle.table.specs.declared.{Aim.Aim};
 ghost use Rattle.turn.specs.Turn.{alone};
-ghost use Rattle.command.specs.declared.Plan.TheVariants.{Refuses, Works};
 
-use command::{Plan, Task};
-use held::{Orders, Position, Selection};
-use hunt::{Next, Spot};
+use command::Task;
+use held::{Orders, Position};
+use hunt::Spot;
 use pack::Head;
 use rows::Row;
 use table::{Act, Aim, Bar, Licence, Rule, Serves};
@@ -99,17 +97,17 @@ fn is_tallying(a: Act) -> bool
     if let Act::Search(_) = a { true } else { false }
 }
 
-fn selection_if(selects: bool, spot: Spot) -> Selection
-    ensures { result ≡ pick selects (On spot) Nothing }
+fn selection_if(selects: bool, spot: Spot) -> Option<Spot>
+    ensures { result ≡ pick selects (Some spot) None }
 {
     if selects {
-        return Selection::On(spot);
+        return Some(spot);
     }
-    Selection::Nothing
+    None
 }
 
 // A record that the head came to past so many index points.
-fn on_record(r: Rule, o: Orders, h: Head, spot: Spot, n: u8) -> Plan
+fn on_record(r: Rule, o: Orders, h: Head, spot: Spot, n: u8) -> Result<Task, Row>
     requires { count_first spot ≤ track_cells }
     ensures { result ≡ on_record r o h spot n }
 {
@@ -117,7 +115,7 @@ fn on_record(r: Rule, o: Orders, h: Head, spot: Spot, n: u8) -> Plan
     let selection = selection_if(r.selects, spot);
     let act = r.act;
     if !is_tallying(act) {
-        return Plan::Works(Task {
+        return Ok(Task {
             head: h,
             place,
             selection,
@@ -126,9 +124,9 @@ fn on_record(r: Rule, o: Orders, h: Head, spot: Spot, n: u8) -> Plan
     }
     let passed = o.tally as u16 + n as u16;
     if MOST_TALLY < passed {
-        return Plan::Refuses(Row::SecondIndex);
+        return Err(Row::SecondIndex);
     }
-    Plan::Works(Task {
+    Ok(Task {
         head: h,
         place,
         selection,
@@ -136,30 +134,30 @@ fn on_record(r: Rule, o: Orders, h: Head, spot: Spot, n: u8) -> Plan
     })
 }
 
-fn on_next(r: Rule, o: Orders, h: Head, next: Next) -> Plan
+fn on_next(r: Rule, o: Orders, h: Head, next: Option<(Spot, u8)>) -> Result<Task, Row>
     requires { spaced_to next ≤ track_cells }
     ensures { result ≡ on_next r o h next }
 {
     match next {
-        Next::ComesTo(spot, n) => on_record(r, o, h, spot, n),
-        Next::NoMarker => Plan::Refuses(Row::NoMarker),
+        Some((spot, n)) => on_record(r, o, h, spot, n),
+        None => Err(Row::NoMarker),
     }
 }
 
 // The record selected, which there must be.
-fn on_selected(r: Rule, o: Orders, h: Head) -> Plan
+fn on_selected(r: Rule, o: Orders, h: Head) -> Result<Task, Row>
     requires { selected_place o.selection ≤ track_cells }
-    ensures { result ≡ on_selected r o h o.selection (Refuses Row.WrongBefore) }
+    ensures { result ≡ on_selected r o h o.selection (Err Row.WrongBefore) }
 {
     let selection = o.selection;
     match selection {
-        Selection::On(spot) => on_record(r, o, h, spot, 0),
-        Selection::Nothing => Plan::Refuses(Row::WrongBefore),
+        Some(spot) => on_record(r, o, h, spot, 0),
+        None => Err(Row::WrongBefore),
     }
 }
 
 // The next record.
-fn to_next(r: Rule, track: &[u16], s: Position, o: Orders) -> Plan
+fn to_next(r: Rule, track: &[u16], s: Position, o: Orders) -> Result<Task, Row>
     requires { WholeTrack track.now }
     ensures { result ≡ to_next r (marks_of (alone track.now)) s o }
 {
@@ -167,7 +165,7 @@ fn to_next(r: Rule, track: &[u16], s: Position, o: Orders) -> Plan
 }
 
 // The record selected, where the command before serves this one, or else the next.
-fn to_served(r: Rule, track: &[u16], s: Position, o: Orders, serves: bool) -> Plan
+fn to_served(r: Rule, track: &[u16], s: Position, o: Orders, serves: bool) -> Result<Task, Row>
     requires { WholeTrack track.now × SelectedOn (marks track.now) o.selection }
     ensures { result ≡ to_served r (marks_of (alone track.now)) s o serves }
 {
@@ -176,13 +174,13 @@ fn to_served(r: Rule, track: &[u16], s: Position, o: Orders, serves: bool) -> Pl
     }
     let selection = o.selection;
     match selection {
-        Selection::On(spot) => on_record(r, o, s.head, spot, 0),
-        Selection::Nothing => to_next(r, track, s, o),
+        Some(spot) => on_record(r, o, s.head, spot, 0),
+        None => to_next(r, track, s, o),
     }
 }
 
 // By Search ID's rule.
-fn to_next_id(r: Rule, track: &[u16], s: Position, o: Orders) -> Plan
+fn to_next_id(r: Rule, track: &[u16], s: Position, o: Orders) -> Result<Task, Row>
     requires { WholeTrack track.now }
     ensures { result ≡ aimed r (marks_of (alone track.now)) s o Aim.NextId }
 {
@@ -209,19 +207,19 @@ fn is_served(a: Aim, before: u8) -> bool
 }
 
 // A task at a place where nothing is selected.
-fn task_at(h: Head, place: u16) -> Plan
-    ensures { result ≡ Works (task h place Nothing 0) }
+fn task_at(h: Head, place: u16) -> Result<Task, Row>
+    ensures { result ≡ Ok (task h place None 0) }
 {
-    Plan::Works(Task {
+    Ok(Task {
         head: h,
         place,
-        selection: Selection::Nothing,
+        selection: None,
         tally: 0,
     })
 }
 
 // The last arm is for Next, NextForData and NextForKey: with more than one call of `to_served` plans went through memory (DECISIONS 97).
-fn aimed(r: Rule, track: &[u16], s: Position, o: Orders, a: Aim) -> Plan
+fn aimed(r: Rule, track: &[u16], s: Position, o: Orders, a: Aim) -> Result<Task, Row>
     requires { WholeTrack track.now × SelectedOn (marks track.now) o.selection }
     ensures { result ≡ aimed r (marks_of (alone track.now)) s o a }
 {
@@ -236,14 +234,14 @@ fn aimed(r: Rule, track: &[u16], s: Position, o: Orders, a: Aim) -> Plan
 }
 
 // A plan, unless a row ends it.
-fn unless(barred: bool, row: Row, x: Plan) -> Plan
-    ensures { result ≡ pick barred (Refuses row) x }
+fn unless(barred: bool, row: Row, x: Result<Task, Row>) -> Result<Task, Row>
+    ensures { result ≡ pick barred (Err row) x }
 {
-    if barred { Plan::Refuses(row) } else { x }
+    if barred { Err(row) } else { x }
 }
 
 // The plan, unless the mask bars it.
-fn unless_barred(b: Bar, mask: u8, x: Plan) -> Plan
+fn unless_barred(b: Bar, mask: u8, x: Result<Task, Row>) -> Result<Task, Row>
     ensures { result ≡ unless_barred b mask x }
 {
     match b {
@@ -254,13 +252,13 @@ fn unless_barred(b: Bar, mask: u8, x: Plan) -> Plan
 }
 
 // Where a command works, or the row that ends it.
-pub fn plan(rule: Rule, track: &[u16], s: Position, o: Orders) -> Plan
+pub fn plan(rule: Rule, track: &[u16], s: Position, o: Orders) -> Result<Task, Row>
     requires { WholeTrack track.now × SelectedOn (marks track.now) o.selection }
     ensures { result ≡ plan_of rule (marks_of (alone track.now)) s o }
 {
     let licence = rule.licence;
     if !licensed(licence, o) {
-        return Plan::Refuses(Row::WrongBefore);
+        return Err(Row::WrongBefore);
     }
     let aim = rule.aim;
     let x = aimed(rule, track, s, o, aim);

@@ -1,16 +1,17 @@
 -- What one command does, as one value. A command is told its code and the bytes sent; it knows no storage, no address, no command word and no channel.
 -- Document 01, "Commands", and the Unit Check table of "Channel words"; REFERENCE 5, 8.3.
-use Rattle.std.specs.Prelude.{ℕ, Bool, true, false, List, [], ◌∷◌, length, take, drop}
+use Rattle.std.specs.Prelude.{ℕ, Bool, true, false, List, [], ◌∷◌, length, take, drop, Option}
 use Rattle.cells.specs.Cells.{overlay}
 use Rattle.rows.specs.declared.{Row.Row, Sense.Sense}
 use Rattle.rows.specs.Rows.{sense_of, row_takes}
 use Rattle.areas.specs.declared.{Area.Area}
 use Rattle.pack.specs.declared.{Cylinder.Cylinder, Head.Head}
-use Rattle.held.specs.declared.{Position.Position, Orders.Orders, Selection.Selection}
+use Rattle.held.specs.declared.{Position.Position, Orders.Orders}
 use Rattle.held.specs.Held.{no_sense}
 -- Ending: Normal, Satisfied (a search), Exception (Unit Exception), Check row (Unit Check). Transfer: None, Gives or Takes so many. Report, a
 -- turn without bytes and cells: ending, transfer, position, orders.
 use Rattle.turn.specs.declared.{Ending.Ending, Transfer.Transfer, Report.Report}
+use Rattle.hunt.specs.declared.{Spot.Spot}
 
 -- all that a command sees of the pack: the tracks of the cylinder, by their heads
 abbrev pub Tracks : Type 0
@@ -95,7 +96,7 @@ with_sense s x = position_at s.cylinder s.head s.place x
 unfoldable pub position_sought : Cylinder → Head → Position
 position_sought c h = position_at c h 0 no_sense
 
-unfoldable pub orders_of : ℕ → Bool → ℕ → Bool → ℕ → Selection → Orders
+unfoldable pub orders_of : ℕ → Bool → ℕ → Bool → ℕ → Option Spot → Orders
 orders_of mask set before whole tally selection = record {
   mask = mask;
   mask_set = set;
@@ -106,7 +107,7 @@ orders_of mask set before whole tally selection = record {
 }
 
 -- after the command with this code: the mask stands
-unfoldable pub after : Orders → ℕ → Bool → ℕ → Selection → Orders
+unfoldable pub after : Orders → ℕ → Bool → ℕ → Option Spot → Orders
 after o code whole tally selection = orders_of o.mask o.mask_set code whole tally selection
 
 -- ---- Unit Check: no cell is laid, the place stands, and sense says the row

@@ -12,38 +12,37 @@ use Rattle.rows.specs.declared.{Row.Row}
 use Rattle.areas.specs.declared.{Counts.Counts}
 use Rattle.pack.specs.declared.{Head.Head, Shape.Shape}
 use Rattle.held.specs.declared.{Position.Position, Orders.Orders}
-use Rattle.command.specs.declared.{Got.Got, Task.Task, Plan.Plan, Job.Job, Ready.Ready}
-use Rattle.command.specs.declared.Got.TheVariants.{Sees, Fails}
+use Rattle.command.specs.declared.{Task.Task, Job.Job}
 use Rattle.table.specs.declared.{Control.Control, Act.Act, Write.Write, Rule.Rule}
 use Rattle.turn.specs.declared.{Report.Report}
 use Rattle.turn.specs.Turn.{Tracks, Piece, alone, given, filled, report_of, lay, is_check}
-use Rattle.command.specs.declared.Plan.TheVariants.{Refuses, Works}
 use Rattle.command.specs.Command.{marks_of, plan_of, gets, Sight, sight, end_turn, end_turn_at, sense_bytes, sense_turn, control_turn, write_turn, act_turn, job_of, has_read, ready_by, ready_of}
 use Rattle.unit.specs.Unit.{Accepts}
 use Rattle.command.specs.Frame.{gives_bytes}
 use Rattle.command.proofs.Acts.{acts_keeps}
+use Rattle.std.specs.Prelude.{Err, Ok, Result}
 
 -- ---- before it acts
 
-module _ (t : Tracks) (code : ℕ) (r : Rule) (s : Position) (o : Orders) (k : Task) (x : Got) (got : (h : Head) → x ≡ gets r.names t h k.place) where
-  pub all_read_lem : (n : Counts) → x ≡ Sees n → Ready.Acts (job_of code r s o k n) ≡ ready_by t code r s o (Works k)
+module _ (t : Tracks) (code : ℕ) (r : Rule) (s : Position) (o : Orders) (k : Task) (x : Result Counts Row) (got : (h : Head) → x ≡ gets r.names t h k.place) where
+  pub all_read_lem : (n : Counts) → x ≡ Ok n → Ok (job_of code r s o k n) ≡ ready_by t code r s o (Ok k)
   unfolding ready_by has_read
   all_read_lem n e = ap (has_read code r s o k) (sym e ∙ got k.head)
 
-  pub not_read : (row : Row) → x ≡ Fails row → Ready.Refuses row ≡ ready_by t code r s o (Works k)
+  pub not_read : (row : Row) → x ≡ Err row → Err row ≡ ready_by t code r s o (Ok k)
   unfolding ready_by has_read
   not_read row e = ap (has_read code r s o k) (sym e ∙ got k.head)
 
-module _ (t : Tracks) (code : ℕ) (r : Rule) (s : Position) (o : Orders) (p : Plan) (rule : r ≡ rule_of code) (plan : p ≡ plan_of r (marks_of t) s o) where
+module _ (t : Tracks) (code : ℕ) (r : Rule) (s : Position) (o : Orders) (p : Result Task Row) (rule : r ≡ rule_of code) (plan : p ≡ plan_of r (marks_of t) s o) where
   comes : ready_by t code r s o p ≡ ready_of t s o code
   unfolding ready_of
   comes = ap (ready_by t code r s o) plan ∙ ap (λ (z : Rule). ready_by t code z s o (plan_of z (marks_of t) s o)) rule
 
-  pub refuses : (row : Row) → p ≡ Refuses row → Ready.Refuses row ≡ ready_of t s o code
+  pub refuses : (row : Row) → p ≡ Err row → Err row ≡ ready_of t s o code
   unfolding ready_by
   refuses row e = ap (ready_by t code r s o) (sym e) ∙ comes
 
-  pub works : (k : Task) (y : Ready) → p ≡ Works k → y ≡ ready_by t code r s o (Works k) → y ≡ ready_of t s o code
+  pub works : (k : Task) (y : Result Job Row) → p ≡ Ok k → y ≡ ready_by t code r s o (Ok k) → y ≡ ready_of t s o code
   works k y e q = q ∙ ap (ready_by t code r s o) (sym e) ∙ comes
 
 -- ---- by what it does

@@ -1,28 +1,28 @@
 // The unit: what a command comes to before it acts, what it then tells, gives and lays. It is lent one track, the bytes sent, and room for bytes.
 #![tactic(auto)]
 
-ghost use Rattle.std.specs.Prelude.{◌≡◌, List, ℕ};
+ghost use Rattle.std.specs.Prelude.{◌≡◌, List, ℕ, Ok};
 ghost use Rattle.cells.specs.Cells.{marks};
 ghost use Rattle.hunt.specs.Hunt.{WholeTrack};
 ghost use Rattle.command.specs.Command.{SelectedOn, Sighted, sight, control_turn, ready_by, ready_of};
 ghost use Rattle.turn.specs.Turn.{Tracks, alone, filled, given, report_of, lay};
-ghost use Rattle.command.specs.declared.Plan.TheVariants.{Works};
 ghost use Rattle.unit.specs.Unit.{job_turn, Accepts};
 
-use command::{Got, Job, Plan, Ready, Task};
+use command::{Job, Task};
 use held::{Orders, Position};
 use pack::Shape;
+use rows::Row;
 use table::{Act, Control, Rule};
 use turn::Report;
 
 // All that a task names is read.
-fn read(code: u8, r: Rule, s: Position, o: Orders, k: Task, track: &[u16]) -> Ready
-    ensures { result ≡ ready_by (alone track.now) code r s o (Works k) }
+fn read(code: u8, r: Rule, s: Position, o: Orders, k: Task, track: &[u16]) -> Result<Job, Row>
+    ensures { result ≡ ready_by (alone track.now) code r s o (Ok k) }
 {
     let act = r.act;
     let names = r.names;
     match sight::get(track, names, k.place) {
-        Got::Sees(counts) => Ready::Acts(Job {
+        Ok(counts) => Ok(Job {
             code,
             act,
             names,
@@ -33,19 +33,19 @@ fn read(code: u8, r: Rule, s: Position, o: Orders, k: Task, track: &[u16]) -> Re
             task: k,
             counts,
         }),
-        Got::Fails(row) => Ready::Refuses(row),
+        Err(row) => Err(row),
     }
 }
 
 // What a command comes to on the track under the head: a row of the Unit Check table, or a job.
-pub fn ready(code: u8, track: &[u16], s: Position, o: Orders) -> Ready
+pub fn ready(code: u8, track: &[u16], s: Position, o: Orders) -> Result<Job, Row>
     requires { WholeTrack track.now × SelectedOn (marks track.now) o.selection }
     ensures { result ≡ ready_of (alone track.now) s o code }
 {
     let rule = table::rule_of(code);
     match task::plan(rule, track, s, o) {
-        Plan::Refuses(row) => Ready::Refuses(row),
-        Plan::Works(k) => read(code, rule, s, o, k, track),
+        Err(row) => Err(row),
+        Ok(k) => read(code, rule, s, o, k, track),
     }
 }
 

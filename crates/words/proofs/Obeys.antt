@@ -9,18 +9,19 @@ use lib.Dec.{leb, ltb}
 use borrow.Author.Tests.{leb-true}
 use Rattle.cells.specs.Cells.{pick}
 use Rattle.cells.proofs.Tests.{pick_all}
-use Rattle.words.specs.declared.{Word.Word, Tested.Tested, Cause.Cause}
+use Rattle.words.specs.declared.{Word.Word, Cause.Cause, Directive.Directive}
 use Rattle.words.specs.declared.Cause.TheVariants.{Area}
-use Rattle.words.specs.declared.Tested.TheVariants.{Obey, Jump, Bad}
 use Rattle.words.specs.Words.{Storable, status_for, program_check, is_tic, in_place, flags_known, tested_command, tested_word, tested, word_at}
+use Rattle.std.specs.Prelude.{Ok, Err, Result}
+use Rattle.words.specs.declared.Directive.TheVariants.{Obey, Jump}
 
 -- a word to obey is one whose area lies in storage
-abbrev pub TestedIn : List ℕ → Tested → Type 0
-TestedIn s (Obey w) = w.address + w.count ≤ length s
-TestedIn s (Jump a) = Unit {0}
-TestedIn s (Bad cause) = Unit {0}
+abbrev pub TestedIn : List ℕ → Result Directive Cause → Type 0
+TestedIn s (Ok (Obey w)) = w.address + w.count ≤ length s
+TestedIn s (Ok (Jump a)) = Unit {0}
+TestedIn s (Err cause) = Unit {0}
 
-reaches : (s : List ℕ) (w : Word) (b : Bool) → leb (w.address + w.count) (length s) ≡ b → TestedIn s (pick b (Obey w) (Bad Area))
+reaches : (s : List ℕ) (w : Word) (b : Bool) → leb (w.address + w.count) (length s) ≡ b → TestedIn s (pick b (Ok (Obey w)) (Err Area))
 reaches s w true e = leb-true _ _ e
 reaches s w false e = tt
 

@@ -1,9 +1,9 @@
 -- Document 01, "Channel words"; REFERENCE 7.1 to 7.4, 7.8: the address word, command words, program checks in their order, the status word.
-use Rattle.std.specs.Prelude.{ℕ, ◌+◌, ◌≤◌, ◌/◌, ◌%◌, ◌*◌, ◌<◌, Bool, List, [], ◌∷◌, length, get_or, ltb, leb, eqb}
+use Rattle.std.specs.Prelude.{ℕ, ◌+◌, ◌≤◌, ◌/◌, ◌%◌, ◌*◌, ◌<◌, Bool, List, [], ◌∷◌, length, get_or, ltb, leb, eqb, Some, None, Ok, Err, Option, Result}
 use Rattle.cells.specs.Cells.{pick, both, be16, be24, overlay}
 -- Word: code, address, flags, count. Status: key, address, unit, channel, left. Begun, what the address word says: Begins key first, or Refused.
 -- Tested, what a word's tests come to: Obey word, Jump address (a TIC), or Bad cause. Cause: the tests below, by their names.
-use Rattle.words.specs.declared.{Word.Word, Begun.Begun, Cause.Cause, Tested.Tested, Status.Status}
+use Rattle.words.specs.declared.{Word.Word, Cause.Cause, Status.Status, Directive.Directive}
 
 -- HOUSE: every next word's address, and the status word's, is taken modulo 2 to the 24
 abbrev pub addresses : ℕ
@@ -17,9 +17,9 @@ along at by = (at + by) % addresses
 abbrev pub address_word : ℕ
 address_word = 72
 
-unfoldable pub begun_by : List ℕ → Begun
+unfoldable pub begun_by : List ℕ → Option (ℕ × ℕ)
 begun_by s =
-    pick (eqb (get_or s address_word 0 % 16) 0) (Begun.Begins (get_or s address_word 0 / 16) (be24 s (address_word + 1))) Begun.Refused
+    pick (eqb (get_or s address_word 0 % 16) 0) (Some (get_or s address_word 0 / 16, be24 s (address_word + 1))) None
 
 -- ---- a command word, 8 bytes: code, address (3), flags, an ignored byte, count (2)
 
@@ -56,26 +56,26 @@ abbrev pub flags_known : Word → Bool
 flags_known w = both (ltb w.flags 128) (eqb (w.flags % 32) 0)
 
 -- the tests of a word that is no TIC, in order; no later test is made
-unfoldable pub tested_command : List ℕ → Word → Tested
+unfoldable pub tested_command : List ℕ → Word → Result Directive Cause
 tested_command s w =
     pick (flags_known w)
     (pick (ltb 0 w.count)
     (pick (ltb 0 (w.code % 16))
     (pick (leb (w.address + w.count) (length s))
-    (Tested.Obey w)
-    (Tested.Bad Cause.Area))
-    (Tested.Bad Cause.Code))
-    (Tested.Bad Cause.NoCount))
-    (Tested.Bad Cause.Flags)
+    (Ok (Directive.Obey w))
+    (Err Cause.Area))
+    (Err Cause.Code))
+    (Err Cause.NoCount))
+    (Err Cause.Flags)
 
 -- the tests of a word after a TIC or not
-unfoldable pub tested_word : List ℕ → Bool → Word → Tested
+unfoldable pub tested_word : List ℕ → Bool → Word → Result Directive Cause
 tested_word s after_tic w =
-    pick (is_tic w) (pick after_tic (Tested.Bad Cause.TicAfterTic) (Tested.Jump w.address)) (tested_command s w)
+    pick (is_tic w) (pick after_tic (Err Cause.TicAfterTic) (Ok (Directive.Jump w.address))) (tested_command s w)
 
 -- the tests of the word at an address of storage
-unfoldable pub tested : List ℕ → ℕ → Bool → Tested
-tested s at after_tic = pick (in_place s at) (tested_word s after_tic (word_at s at)) (Tested.Bad Cause.Place)
+unfoldable pub tested : List ℕ → ℕ → Bool → Result Directive Cause
+tested s at after_tic = pick (in_place s at) (tested_word s after_tic (word_at s at)) (Err Cause.Place)
 
 -- the word's area lies in storage, as its tests made sure
 pub record AreaFits (s : List ℕ) (w : Word) : Type 0 where

@@ -41,13 +41,6 @@ pub struct Word {
     pub count: u16,
 }
 
-// What the address word says: a chain's key and its first word's address, or that it is bad.
-#[derive(Clone, Copy)]
-pub enum Begun {
-    Begins { key: u8, first: u32 },
-    Refused,
-}
-
 // Why a word is a program check, in the order of the tests.
 #[derive(Clone, Copy)]
 pub enum Cause {
@@ -59,12 +52,11 @@ pub enum Cause {
     Area,
 }
 
-// What the tests of a word come to: a command to obey, a TIC to an address, or a program check.
+// What a word says that passes its tests: a command to obey, or a TIC to an address.
 #[derive(Clone, Copy)]
-pub enum Tested {
+pub enum Directive {
     Obey(Word),
     Jump(u32),
-    Bad(Cause),
 }
 
 // A status word.
@@ -106,18 +98,15 @@ fn word_count(storage: &[u8], at: u32) -> u16
     cells::pair(high, low)
 }
 
-// The address word, at 72.
-pub fn address_word(storage: &[u8]) -> Begun
+// The address word, at 72: a chain's key and its first word's address, if it is good.
+pub fn address_word(storage: &[u8]) -> Option<(u8, u32)>
     ensures { result ≡ begun_by storage.now }
 {
     let top = cells::byte_at(storage, KEY_BYTE);
     if top % DIGIT != 0 {
-        return Begun::Refused;
+        return None;
     }
-    Begun::Begins {
-        key: top / DIGIT,
-        first: word_address(storage, ADDRESS_WORD),
-    }
+    Some((top / DIGIT, word_address(storage, ADDRESS_WORD)))
 }
 
 // The command word at an address, as it stands there.
@@ -134,49 +123,49 @@ pub fn word_at(storage: &[u8], at: u32) -> Word
 }
 
 // The tests of a word that is no TIC, in storage of so many bytes.
-fn test_command(bytes: usize, w: Word) -> Tested
+fn test_command(bytes: usize, w: Word) -> Result<Directive, Cause>
     ensures { (s : List ℕ) → length s ≡ bytes → result ≡ tested_command s w }
 {
     if w.flags >= FLAG_80 {
-        return Tested::Bad(Cause::Flags);
+        return Err(Cause::Flags);
     }
     if w.flags % SUPPRESSES != 0 {
-        return Tested::Bad(Cause::Flags);
+        return Err(Cause::Flags);
     }
     if w.count == 0 {
-        return Tested::Bad(Cause::NoCount);
+        return Err(Cause::NoCount);
     }
     if w.code % DIGIT == 0 {
-        return Tested::Bad(Cause::Code);
+        return Err(Cause::Code);
     }
     if bytes < w.address as usize + w.count as usize {
-        return Tested::Bad(Cause::Area);
+        return Err(Cause::Area);
     }
-    Tested::Obey(w)
+    Ok(Directive::Obey(w))
 }
 
 // The tests of a word after a TIC or not.
-fn test_word(bytes: usize, after_tic: bool, w: Word) -> Tested
+fn test_word(bytes: usize, after_tic: bool, w: Word) -> Result<Directive, Cause>
     ensures { (s : List ℕ) → length s ≡ bytes → result ≡ tested_word s after_tic w }
 {
     if w.code % DIGIT != TIC {
         return test_command(bytes, w);
     }
     if after_tic {
-        return Tested::Bad(Cause::TicAfterTic);
+        return Err(Cause::TicAfterTic);
     }
-    Tested::Jump(w.address)
+    Ok(Directive::Jump(w.address))
 }
 
 // The tests of the word at an address of storage: program checks in their order.
-pub fn test(storage: &[u8], at: u32, after_tic: bool) -> Tested
+pub fn test(storage: &[u8], at: u32, after_tic: bool) -> Result<Directive, Cause>
     ensures { result ≡ tested storage.now at after_tic }
 {
     if at % WORD != 0 {
-        return Tested::Bad(Cause::Place);
+        return Err(Cause::Place);
     }
     if storage.len() < at as usize + WORD_BYTES {
-        return Tested::Bad(Cause::Place);
+        return Err(Cause::Place);
     }
     test_word(storage.len(), after_tic, word_at(storage, at))
 }

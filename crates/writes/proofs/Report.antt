@@ -14,7 +14,6 @@ use Rattle.areas.specs.Areas.{key_area, data_area, record_cells, end_by, needed,
 use Rattle.hunt.specs.declared.Spot.TheVariants.{Marker}
 use Rattle.room.specs.Room.{fits}
 use Rattle.room.proofs.Laws.{fits_ends}
-use Rattle.held.specs.declared.Selection.TheVariants.{On}
 use Rattle.turn.specs.declared.{Ending.Ending, Transfer.Transfer, Report.Report}
 use Rattle.turn.specs.declared.Ending.TheVariants.{Normal}
 use Rattle.command.specs.Command.{area_if, named, task, all_recorded, Sight, sight, fail_turn, ending_of, piece, to_end, home_turn, record_takes, new_turn, r0_turn, record_turn, key_sent, update_turn, write_turn}
@@ -26,6 +25,7 @@ use Rattle.ending.specs.Ending.{report_at}
 use Rattle.ending.proofs.Laws.{ended_at, ended}
 use Rattle.writes.specs.Writes.{DoesWrite}
 use Rattle.writes.proofs.Calls.{flag_r0, recorded_is}
+use Rattle.std.specs.Prelude.{Some}
 
 -- ---- a new record, by whether it has room
 
@@ -57,10 +57,10 @@ module _ (t : List ℕ) (j : Job) (v : List ℕ) where
     record_begins at b q r e = omega (arith, fits_ends at need (sym r ∙ e), q)
 
     pub record_told : (at : ℕ) (r : Report) → need ≡ needed n
-        → r ≡ report_of (new_turn x (task j.task.head (at + 1) (On (Marker at)) 0) at n need (marker ∷ new_record flag v)) → r ≡ report_of (record_turn x at flag)
+        → r ≡ report_of (new_turn x (task j.task.head (at + 1) (Some (Marker at)) 0) at n need (marker ∷ new_record flag v)) → r ≡ report_of (record_turn x at flag)
     unfolding record_turn sight
     record_told at r q f =
-        let told : Counts → ℕ → Report = λ m i. report_of (new_turn x (task j.task.head (at + 1) (On (Marker at)) 0) at m i (marker ∷ new_record flag v)) in
+        let told : Counts → ℕ → Report = λ m i. report_of (new_turn x (task j.task.head (at + 1) (Some (Marker at)) 0) at m i (marker ∷ new_record flag v)) in
         f ∙ ap (told n) q ∙ ap (λ (m : Counts). told m (needed m)) p
 
 -- ---- an update: whether the areas that it goes over are byte cells

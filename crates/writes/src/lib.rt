@@ -15,7 +15,6 @@ ghost use Rattle.writes.specs.Writes.{DoesWrite, gone_over, updated, Over};
 
 use areas::{Area, Counts};
 use command::{Job, Task};
-use held::Selection;
 use hunt::Spot;
 use rows::Row;
 use table::Write;
@@ -67,7 +66,7 @@ fn write_after(at: u32, flag: u8, j: Job, sent: &[u8]) -> Report
     let task = Task {
         head,
         place: p + 1,
-        selection: Selection::On(Spot::Marker(p)),
+        selection: Some(Spot::Marker(p)),
         tally: 0,
     };
     let transfer = Transfer::Takes(record_takes(sent, n));

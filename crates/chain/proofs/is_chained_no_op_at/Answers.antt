@@ -4,14 +4,14 @@ use Rattle.chain.specs.Stroke.{tested_chained_no_op}
 use Rattle.chain.proofs.Strokes.{by_test}
 use Rattle.chain.proofs.is_chained_no_op_at.Goals as goal
 
-pub returns-in-Obey : goal.returns-in-Obey
+pub returns-in-Ok-Obey : goal.returns-in-Ok-Obey
 unfolding tested_chained_no_op
-returns-in-Obey c = by_test _ _ _ _ _ c.test.ensures c.in-Obey.is c.is_chained_no_op.ensures
+returns-in-Ok-Obey c = by_test _ _ _ _ _ c.test.ensures (rw c.in-Ok-Obey.field-0-is at c.in-Ok-Obey.is) c.is_chained_no_op.ensures
 
-pub returns-in-Jump : goal.returns-in-Jump
+pub returns-in-Ok-Jump : goal.returns-in-Ok-Jump
 unfolding tested_chained_no_op
-returns-in-Jump c = by_test _ _ _ _ _ c.test.ensures c.in-Jump.is refl
+returns-in-Ok-Jump c = by_test _ _ _ _ _ c.test.ensures (rw c.in-Ok-Jump.field-0-is at c.in-Ok-Jump.is) refl
 
-pub returns-in-Bad : goal.returns-in-Bad
+pub returns-in-Err : goal.returns-in-Err
 unfolding tested_chained_no_op
-returns-in-Bad c = by_test _ _ _ _ _ c.test.ensures c.in-Bad.is refl
+returns-in-Err c = by_test _ _ _ _ _ c.test.ensures c.in-Err.is refl

@@ -7,10 +7,10 @@ use Rattle.channel.proofs.turn.Goals as goal
 pub act-requires : goal.act-requires
 act-requires c =
     let p = c.requires in
-    (p.0, p.1, job_sighted _ _ _ _ _ (sym c.in-Acts.is ∙ c.ready.ensures))
+    (p.0, p.1, job_sighted _ _ _ _ _ (sym c.in-Ok.is ∙ c.ready.ensures))
 
-pub returns-in-Refuses : goal.returns-in-Refuses
-returns-in-Refuses c = row_turned _ _ _ _ _ _ c.ready.ensures _ _ c.in-Refuses.is c.failed.ensures
+pub returns-in-Err : goal.returns-in-Err
+returns-in-Err c = row_turned _ _ _ _ _ _ c.ready.ensures _ _ c.in-Err.is c.failed.ensures
 
-pub returns-in-Acts : goal.returns-in-Acts
-returns-in-Acts c = job_turned _ _ _ _ _ _ c.ready.ensures _ _ _ _ c.in-Acts.is c.act.ensures
+pub returns-in-Ok : goal.returns-in-Ok
+returns-in-Ok c = job_turned _ _ _ _ _ _ c.ready.ensures _ _ _ _ c.in-Ok.is c.act.ensures

@@ -3,10 +3,10 @@ use Rattle.turn.specs.Turn.{transfer_of, report_of, position_sought, position_at
 use Rattle.command.specs.Command.{sight, arrival_turn}
 use Rattle.controls.proofs.arrives.Goals as goal
 
-pub returns-in-To : goal.returns-in-To
+pub returns-in-Ok : goal.returns-in-Ok
 unfolding report_of transfer_of arrival_turn sight position_sought position_at
-returns-in-To c t v = rw (c.in-To.is, c.orders_after-orders.ensures)
+returns-in-Ok c t v = rw (c.in-Ok.is, c.orders_after-orders.ensures)
 
-pub returns-in-Fails : goal.returns-in-Fails
+pub returns-in-Err : goal.returns-in-Err
 unfolding arrival_turn
-returns-in-Fails c t v = rw c.in-Fails.is (c.fails.ensures t v)
+returns-in-Err c t v = rw c.in-Err.is (c.fails.ensures t v)

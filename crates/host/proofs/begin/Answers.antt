@@ -3,12 +3,12 @@ use mathlib.Core.Path.{sym, ◌∙◌}
 use Rattle.host.proofs.Tells.{begins_first, begins_refused}
 use Rattle.host.proofs.begin.Goals as goal
 
-pub returns-in-Begins : goal.returns-in-Begins
-returns-in-Begins c =
+pub returns-in-Some : goal.returns-in-Some
+returns-in-Some c =
     λ x.
-    begins_first _ _ _ _ _ _ (sym c.address_word.ensures ∙ c.in-Begins.is) c.advanced.ensures (c.first_word.ensures x)
+    begins_first _ _ _ _ _ _ (sym c.address_word.ensures ∙ c.in-Some.is) c.advanced.ensures (c.first_word.ensures x)
 
-pub returns-in-Refused : goal.returns-in-Refused
-returns-in-Refused c =
+pub returns-in-None : goal.returns-in-None
+returns-in-None c =
     λ x.
-    begins_refused _ _ _ (sym c.address_word.ensures ∙ c.in-Refused.is) (c.refuse.ensures x)
+    begins_refused _ _ _ (sym c.address_word.ensures ∙ c.in-None.is) (c.refuse.ensures x)

@@ -5,8 +5,8 @@ use Rattle.host.proofs.Laws.{passes_legal}
 use Rattle.host.proofs.Tells.{go_refused, go_idle, go_runs}
 use Rattle.host.proofs.go.Goals as goal
 
-pub returns-in-Answers : goal.returns-in-Answers
-returns-in-Answers c = go_refused _ _ _ c.guard.ensures _ _ c.in-Answers.is
+pub returns-in-Err : goal.returns-in-Err
+returns-in-Err c = go_refused _ _ _ c.guard.ensures _ _ c.in-Err.is
 
 pub returns-then-not-h : goal.returns-then-not-h
 returns-then-not-h c = go_idle _ _ _ c.guard.ensures _ c.in_default.is (not-true _ c.if-not-h.true)

@@ -4,8 +4,8 @@ use Rattle.host.proofs.Laws.{passes_legal}
 use Rattle.host.proofs.Tells.{start_refused, start_going, start-begins}
 use Rattle.host.proofs.start.Goals as goal
 
-pub returns-in-Answers : goal.returns-in-Answers
-returns-in-Answers c = start_refused _ _ _ c.guard.ensures _ c.in-Answers.is
+pub returns-in-Err : goal.returns-in-Err
+returns-in-Err c = start_refused _ _ _ c.guard.ensures _ c.in-Err.is
 
 pub returns-then-h : goal.returns-then-h
 returns-then-h c = start_going _ _ _ c.guard.ensures c.in_default.is c.if-h.true

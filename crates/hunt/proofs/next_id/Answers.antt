@@ -7,10 +7,10 @@ use Rattle.hunt.proofs.next_id.Goals as goal
 pub returns-then-place-lt-FIRST_MARKER : goal.returns-then-place-lt-FIRST_MARKER
 returns-then-place-lt-FIRST_MARKER c = id_low _ _ c.if-place-lt-FIRST_MARKER.true
 
-pub returns-in-At : goal.returns-in-At
+pub returns-in-Some : goal.returns-in-Some
 unfolding ahead_or
-returns-in-At c = id_high _ _ _ c.if-place-lt-FIRST_MARKER.false (sym c.next_marker.ensures ∙ c.in-At.is)
+returns-in-Some c = id_high _ _ _ c.if-place-lt-FIRST_MARKER.false (sym c.next_marker.ensures ∙ c.in-Some.is)
 
-pub returns-in-Nothing : goal.returns-in-Nothing
+pub returns-in-None : goal.returns-in-None
 unfolding ahead_or
-returns-in-Nothing c = id_high _ _ _ c.if-place-lt-FIRST_MARKER.false (sym c.next_marker.ensures ∙ c.in-Nothing.is)
+returns-in-None c = id_high _ _ _ c.if-place-lt-FIRST_MARKER.false (sym c.next_marker.ensures ∙ c.in-None.is)

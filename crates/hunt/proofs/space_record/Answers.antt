@@ -7,10 +7,10 @@ use Rattle.hunt.proofs.space_record.Goals as goal
 pub returns-then-after_home : goal.returns-then-after_home
 returns-then-after_home c = spaced_home _ _ _ c.if-after_home.true
 
-pub returns-in-ComesTo : goal.returns-in-ComesTo
+pub returns-in-Some : goal.returns-in-Some
 unfolding spaced_to
-returns-in-ComesTo c = c.count_first.ensures ∙ spaced_to_lem _ _ _ _ c.if-after_home.false (sym c.next_record.ensures ∙ c.in-ComesTo.is)
+returns-in-Some c = c.count_first.ensures ∙ spaced_to_lem _ _ _ _ c.if-after_home.false (sym c.next_record.ensures ∙ c.in-Some.is)
 
-pub returns-in-NoMarker : goal.returns-in-NoMarker
+pub returns-in-None : goal.returns-in-None
 unfolding spaced_to
-returns-in-NoMarker c = spaced_to_lem _ _ _ _ c.if-after_home.false (sym c.next_record.ensures ∙ c.in-NoMarker.is)
+returns-in-None c = spaced_to_lem _ _ _ _ c.if-after_home.false (sym c.next_record.ensures ∙ c.in-None.is)

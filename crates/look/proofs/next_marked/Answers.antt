@@ -7,10 +7,10 @@ use Rattle.look.proofs.next_marked.Goals as goal
 pub returns-then-track-ne-TRACK_CELLS : goal.returns-then-track-ne-TRACK_CELLS
 returns-then-track-ne-TRACK_CELLS c = no_track _ _ c.if-track-ne-TRACK_CELLS.true
 
-pub returns-in-At : goal.returns-in-At
+pub returns-in-Some : goal.returns-in-Some
 unfolding marked_by
-returns-in-At c = ap marked_by (sym c.in-At.is) ∙ on_track_lem _ _ _ c.if-track-ne-TRACK_CELLS.false c.next_marker.ensures
+returns-in-Some c = ap marked_by (sym c.in-Some.is) ∙ on_track_lem _ _ _ c.if-track-ne-TRACK_CELLS.false c.next_marker.ensures
 
-pub returns-in-Nothing : goal.returns-in-Nothing
+pub returns-in-None : goal.returns-in-None
 unfolding marked_by
-returns-in-Nothing c = ap marked_by (sym c.in-Nothing.is) ∙ on_track_lem _ _ _ c.if-track-ne-TRACK_CELLS.false c.next_marker.ensures
+returns-in-None c = ap marked_by (sym c.in-None.is) ∙ on_track_lem _ _ _ c.if-track-ne-TRACK_CELLS.false c.next_marker.ensures

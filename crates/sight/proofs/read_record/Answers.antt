@@ -2,8 +2,8 @@
 use Rattle.sight.proofs.Laws.{record_read, count_bad}
 use Rattle.sight.proofs.read_record.Goals as goal
 
-pub returns-in-Reads : goal.returns-in-Reads
-returns-in-Reads c h = record_read _ _ _ _ _ _ c.read_count.ensures _ _ c.in-Reads.is (c.read_named.ensures h)
+pub returns-in-Some : goal.returns-in-Some
+returns-in-Some c h = record_read _ _ _ _ _ _ c.read_count.ensures _ _ c.in-Some.is (c.read_named.ensures h)
 
-pub returns-in-Fails : goal.returns-in-Fails
-returns-in-Fails c h = count_bad _ _ _ _ _ _ c.read_count.ensures c.in-Fails.is
+pub returns-in-None : goal.returns-in-None
+returns-in-None c h = count_bad _ _ _ _ _ _ c.read_count.ensures c.in-None.is

@@ -4,12 +4,12 @@ use Rattle.task.proofs.Laws.{come_to}
 use Rattle.task.proofs.on_next.Goals as goal
 
 pub on_record-requires : goal.on_record-requires
-on_record-requires c = come_to _ _ _ c.in-ComesTo.is c.requires
+on_record-requires c = come_to _ _ _ c.in-Some.is c.requires
 
-pub returns-in-ComesTo : goal.returns-in-ComesTo
+pub returns-in-Some : goal.returns-in-Some
 unfolding on_next
-returns-in-ComesTo c = rw c.in-ComesTo.is c.on_record.ensures
+returns-in-Some c = rw c.in-Some.is c.on_record.ensures
 
-pub returns-in-NoMarker : goal.returns-in-NoMarker
+pub returns-in-None : goal.returns-in-None
 unfolding on_next
-returns-in-NoMarker c = rw c.in-NoMarker.is
+returns-in-None c = rw c.in-None.is

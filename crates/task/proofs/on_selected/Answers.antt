@@ -4,10 +4,10 @@ use Rattle.task.proofs.Laws.{selected, on_one, on_none}
 use Rattle.task.proofs.on_selected.Goals as goal
 
 pub on_record-requires : goal.on_record-requires
-on_record-requires c = selected _ _ c.in-On.is c.requires
+on_record-requires c = selected _ _ c.in-Some.is c.requires
 
-pub returns-in-On : goal.returns-in-On
-returns-in-On c = on_one _ _ _ _ _ _ _ c.in-On.is c.on_record.ensures
+pub returns-in-Some : goal.returns-in-Some
+returns-in-Some c = on_one _ _ _ _ _ _ _ c.in-Some.is c.on_record.ensures
 
-pub returns-in-Nothing : goal.returns-in-Nothing
-returns-in-Nothing c = on_none _ _ _ _ _ _ c.in-Nothing.is refl
+pub returns-in-None : goal.returns-in-None
+returns-in-None c = on_none _ _ _ _ _ _ c.in-None.is refl
