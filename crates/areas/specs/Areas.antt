@@ -5,7 +5,7 @@ use Rattle.cells.specs.Cells.{pick, be16, part, bytes_of}
 use Rattle.house_check.specs.Check.{check_bytes, good_cells}
 use Rattle.rows.specs.declared.{Row.Row}
 -- Part: Home, Count, Key, Data. Area: part, first (its first cell), bytes (without the two of the check). Counts, what a count area says: flag, cc,
--- hh, r, kl, dl. CountRead: Reads counts, or Fails where the area is not readable.
+-- hh, r, kl, dl.
 use Rattle.areas.specs.declared.{Part.Part, Area.Area, Counts.Counts}
 
 -- ---- an area

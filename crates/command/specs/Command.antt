@@ -21,9 +21,9 @@ use Rattle.table.specs.declared.{How.How, Licence.Licence, Bar.Bar, Aim.Aim, Nam
 use Rattle.table.specs.Table.{rule_of, looks, serves_data, serves_key, is_home, is_mask, bars_seek, bars_write}
 use Rattle.turn.specs.declared.{Ending.Ending}
 use Rattle.turn.specs.Turn.{Tracks, TrackArea, Piece, Moves, None, Gives, Takes, Turn, turn, position_at, position_sought, orders_of, after, check_turn}
--- Task, where it works: head, place (after its work; of a record the first cell of its count area), selection, tally. Plan: Refuses row, or Works task.
--- Got: Sees counts, or Fails row. Job, a command that has read all that it names: code; of its row act, names, excepts, clears; position, orders, task,
--- counts. Ready: Refuses row, or Acts job.
+-- Task, where it works: head, place (after its work; of a record the first cell of its count area), selection, tally. Job, a
+-- command that has read all that it names: code; of its row act, names, excepts, clears; position, orders, task, counts. Where a row of the Unit Check table
+-- ends a command first, that row is the error.
 use Rattle.command.specs.declared.{Task.Task, Job.Job}
 
 -- ==== which record it works on. Of the tracks only the markers are seen

@@ -9,7 +9,6 @@ use Rattle.table.specs.declared.{Control.Control, Act.Act}
 use Rattle.turn.specs.Turn.{Tracks, TrackArea, Piece}
 use Rattle.command.specs.declared.{Task.Task}
 use Rattle.rows.specs.declared.{Row.Row}
--- Plan: Refuses row, or Works task
 
 -- ---- two cylinders
 

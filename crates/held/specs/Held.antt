@@ -5,8 +5,7 @@ use Rattle.rows.specs.declared.{Sense.Sense}
 use Rattle.hunt.specs.declared.{Spot.Spot}
 use Rattle.pack.specs.Pack.{cylinder, head}
 -- Position, what survives a chain: cylinder, head, place, sense. Orders, what a command finds: mask, mask_set, before (a code, 0 for none), whole (its
--- search was equal over the whole field), tally, selection. Selection: Nothing, or On spot. Channel: going, key, next, after_tic. Held: all three.
--- Kept, what lent bytes say: Holds held, or Wrong.
+-- search was equal over the whole field), tally, selection (a spot, or none). Channel: going, key, next, after_tic. Held: all three.
 use Rattle.held.specs.declared.{Position.Position, Orders.Orders, Channel.Channel, Held.Held}
 
 -- sense all zero

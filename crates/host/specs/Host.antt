@@ -8,8 +8,7 @@ use Rattle.held.specs.declared.{Held.Held}
 use Rattle.held.specs.Held.{fresh}
 use Rattle.channel.specs.Channel.{World, world}
 use Rattle.chain.specs.Step.{run, storage_fits, held_fits}
--- Answer: the table's, each below with its number. Guarded, what the refusals of any call come to: Passes, or Answers
--- answer. (`Heard`, in contracts alone: answer, held.)
+-- Answer: the table's, each below with its number. (`Heard`, in contracts alone: answer, held.)
 use Rattle.host.specs.declared.{Answer.Answer}
 use Rattle.words.specs.declared.{Directive.Directive, Cause.Cause}
 

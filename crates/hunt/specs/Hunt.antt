@@ -2,7 +2,8 @@
 -- nothing else on the track.
 use Rattle.std.specs.Prelude.{ℕ, suc, ◌+◌, ◌≡◌, Bool, true, false, not, List, [], ◌∷◌, length, get_or, drop, ltb, eqb, Some, None, Option}
 use Rattle.cells.specs.Cells.{pick, both, track_cells, first_marker, marker}
--- Found: At cell, or Nothing. Spot, a record: R0, or Marker cell. Next: ComesTo spot, past so many index points, or NoMarker.
+-- Spot, a record: R0, or Marker cell. A hunt gives a marker's cell, if there is one; what is next is a spot and how many index points were passed, if there
+-- is a marker at all.
 use Rattle.hunt.specs.declared.{Spot.Spot}
 
 -- a whole track

@@ -3,7 +3,7 @@
 use Rattle.std.specs.Prelude.{ℕ, ◌*◌, ◌+◌, ◌<◌, ◌≤◌, Bool, ltb, leb, eqb, ◌≡◌, List, length, Ok, Err, Result}
 use Rattle.cells.specs.Cells.{pick, both, track_cells, part, overlay}
 use Rattle.rows.specs.declared.{Row.Row}
--- Cylinder, Head: a number each, .0. Shape, what the host says of the pack: cylinders, heads. Sought, a seek's address: To cylinder head, or Fails row.
+-- Cylinder, Head: a number each, .0. Shape, what the host says of the pack: cylinders, heads.
 use Rattle.pack.specs.declared.{Cylinder.Cylinder, Head.Head, Shape.Shape}
 
 abbrev pub most_cylinders : ℕ

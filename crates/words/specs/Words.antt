@@ -1,8 +1,8 @@
 -- Document 01, "Channel words"; REFERENCE 7.1 to 7.4, 7.8: the address word, command words, program checks in their order, the status word.
 use Rattle.std.specs.Prelude.{ℕ, ◌+◌, ◌≤◌, ◌/◌, ◌%◌, ◌*◌, ◌<◌, Bool, List, [], ◌∷◌, length, get_or, ltb, leb, eqb, Some, None, Ok, Err, Option, Result}
 use Rattle.cells.specs.Cells.{pick, both, be16, be24, overlay}
--- Word: code, address, flags, count. Status: key, address, unit, channel, left. Begun, what the address word says: Begins key first, or Refused.
--- Tested, what a word's tests come to: Obey word, Jump address (a TIC), or Bad cause. Cause: the tests below, by their names.
+-- Word: code, address, flags, count. Status: key, address, unit, channel, left. Directive, what a word says that passes its tests: Obey word,
+-- or Jump address (a TIC). Cause: the tests below, by their names.
 use Rattle.words.specs.declared.{Word.Word, Cause.Cause, Status.Status, Directive.Directive}
 
 -- HOUSE: every next word's address, and the status word's, is taken modulo 2 to the 24
