@@ -36,10 +36,8 @@ fn byte_in(r: u16, cell: u16) -> u16
     ensures { result ≡ feed r (byte_bits cell []) }
 {
     let mut x = r ^ (cell % 256 * 256);
-    let mut k: usize = 0;
-    while k < BYTE_BITS {
+    for _ in 0..BYTE_BITS {
         x = shift(x);
-        k += 1;
     }
     x
 }
@@ -48,13 +46,7 @@ fn byte_in(r: u16, cell: u16) -> u16
 fn by_bits(cells: &[u16]) -> u16
     ensures { result ≡ check (bytes_of cells.now) }
 {
-    let mut r: u16 = 0;
-    let mut i = 0;
-    while i < cells.len() {
-        r = byte_in(r, cells[i]);
-        i += 1;
-    }
-    r
+    cells.iter().fold(0, |r, cell| byte_in(r, *cell))
 }
 
 // ---- by the table
@@ -65,11 +57,9 @@ fn by_table(table: &[u16; 256], start: u16, cells: &[u16]) -> u16
     ensures { result ≡ table_feed start (bytes_of cells.now) }
 {
     let mut r = start;
-    let mut i = 0;
-    while i < cells.len() {
-        let b = (r / 256) ^ (cells[i] % 256);
-        r = (r % 256 * 256) ^ table[b as usize];
-        i += 1;
+    for cell in cells {
+        let b = (r / 256) ^ (cell % 256);
+        r = (r % 256 * 256) ^ table[usize::from(b)];
     }
     r
 }
@@ -85,21 +75,15 @@ struct Rest {
     d: u64,
 }
 
-fn wide(cell: u16) -> u64
-    ensures { (result ≡ cell) × (result < 65536) }
-{
-    cell as u64
-}
-
 // Four cells as a word.
-fn word(cells: &[u16], at: usize) -> u64
-    requires { at + 4 ≤ length cells.now }
-    ensures { bits (cells_in result) ≡ bits (part cells.now at 4) }
+fn word(cells: &[u16; WORD_CELLS]) -> u64
+    ensures { bits (cells_in result) ≡ bits cells.now }
 {
-    wide(cells[at])
-        + wide(cells[at + 1]) * 0x10000
-        + wide(cells[at + 2]) * 0x100000000
-        + wide(cells[at + 3]) * 0x1000000000000
+    let [a, b, c, d] = *cells;
+    u64::from(a)
+        + u64::from(b) * 0x10000
+        + u64::from(c) * 0x100000000
+        + u64::from(d) * 0x1000000000000
 }
 
 // Four cells more. The first four of the rest go into those 4, 11 and 16 cells later, and are left out.
@@ -169,19 +153,17 @@ fn ended(s: Rest, cells: &[u16]) -> u16
 fn by_folding(cells: &[u16]) -> u16
     ensures { result ≡ check (bytes_of cells.now) }
 {
-    let n = cells.len();
-    let mut at = 0;
+    let (words, last) = cells.as_chunks::<WORD_CELLS>();
     let mut s = Rest {
         a: 0,
         b: 0,
         c: 0,
         d: 0,
     };
-    while WORD_CELLS <= n - at {
-        s = fold(s, word(cells, at));
-        at += WORD_CELLS;
+    for four in words {
+        s = fold(s, word(four));
     }
-    ended(s, &cells[at..])
+    ended(s, last)
 }
 
 // ---- the check
@@ -203,15 +185,7 @@ pub fn check_of(cells: &[u16]) -> u16
 pub fn all_bytes(cells: &[u16]) -> bool
     ensures { result ≡ all_bytes cells.now }
 {
-    let mut all = true;
-    let mut i = 0;
-    while i < cells.len() {
-        if cells[i] / 256 != 1 {
-            all = false;
-        }
-        i += 1;
-    }
-    all
+    cells.iter().fold(true, |all, cell| all & (cell / 256 == 1))
 }
 
 // Whether cells are all recorded bytes and leave no remainder.
