@@ -3,7 +3,7 @@
 #![tactic(auto)]
 
 ghost use Rattle.std.specs.Prelude.{◌≡◌, [], ◌++◌, ◌+◌, ◌-◌, ◌^◌, ◌<◌, ◌≤◌, eqb, length};
-ghost use Rattle.cells.specs.Cells.{both, part, bytes_of, all_bytes};
+ghost use Rattle.cells.specs.Cells.{both, bytes_of, all_bytes};
 ghost use Rattle.house_check.specs.Check.{check_bytes, good_cells, bit_step, feed, byte_bits, bits, check};
 ghost use Rattle.house_check.specs.Table.{remainders, table_feed};
 ghost use Rattle.house_check.specs.Fold.{cells_in, rest, low_bytes, bytes_in, spread};
@@ -67,7 +67,7 @@ fn by_table(table: &[u16; 256], start: u16, cells: &[u16]) -> u16
 // ---- by folding
 
 // Sixteen cells, four to a word, the first of them the lowest. All cells before them were folded into them.
-#[derive(Clone, Copy)]
+#[derive(Clone, Copy, Default)]
 struct Rest {
     a: u64,
     b: u64,
@@ -132,12 +132,8 @@ fn last_bytes(s: Rest) -> [u16; 4]
 {
     let e = packed(s.c, s.d) ^ spread(packed(s.a, s.b), 4);
     let g = e ^ spread(e >> 32, 2);
-    [
-        (g / 0x1000000 % 256) as u16,
-        (g / 0x10000 % 256) as u16,
-        (g / 256 % 256) as u16,
-        (g % 256) as u16,
-    ]
+    let [.., a, b, c, d] = g.to_be_bytes();
+    [u16::from(a), u16::from(b), u16::from(c), u16::from(d)]
 }
 
 // The register after the rest and the cells behind it.
@@ -154,12 +150,7 @@ fn by_folding(cells: &[u16]) -> u16
     ensures { result ≡ check (bytes_of cells.now) }
 {
     let (words, last) = cells.as_chunks::<WORD_CELLS>();
-    let mut s = Rest {
-        a: 0,
-        b: 0,
-        c: 0,
-        d: 0,
-    };
+    let mut s = Rest::default();
     for four in words {
         s = fold(s, word(four));
     }

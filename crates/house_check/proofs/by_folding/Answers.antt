@@ -1,5 +1,5 @@
 -- `house_check::by_folding` meets its contract. The invariant: the check of the rest is the register after the cells of the words so far.
-use mathlib.Core.Path.{refl, ap, ap₂, ◌∙◌}
+use mathlib.Core.Path.{◌≡◌, refl, ap, ap₂, ◌∙◌}
 use mathlib.Core.List.{List}
 use Prim.Native.Nat.{ℕ, ◌/◌}
 use lib.ListN.{length}
@@ -7,13 +7,19 @@ use lib.Seq.{take_all}
 use Rattle.std.specs.List.{fold}
 use Rattle.cells.specs.Cells.{bytes_of}
 use Rattle.house_check.specs.Check.{bit_step, feed, byte_bits, bits, check}
+use Rattle.house_check.specs.declared.{Rest.Rest}
 use Rattle.house_check.specs.Fold.{cells_in, rest}
+use borrow.Author.Rules.{rules}
 use Rattle.house_check.proofs.Words.{by_fours}
 use Rattle.house_check.proofs.by_folding.Goals as goal
 
-pub loop-four-init : goal.loop-four-init
+-- the check of 16 zeros
+from_zeros : (s : Rest) → s.a ≡ 0 → s.b ≡ 0 → s.c ≡ 0 → s.d ≡ 0 → check (rest s) ≡ 0
 unfolding check rest cells_in bits byte_bits feed bit_step
-loop-four-init c = refl
+from_zeros s a b c d = rw (a, b, c, d) refl
+
+pub loop-four-init : goal.loop-four-init
+loop-four-init c = from_zeros _ (search rules) (search rules) (search rules) (search rules)
 
 pub returns : goal.returns
 unfolding check
