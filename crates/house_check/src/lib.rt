@@ -22,6 +22,7 @@ const CHECK_BYTES: usize = 2;
 // ---- bit by bit
 
 // A zero bit into the register.
+#[tactic(auto, unfolding(crate::specs::Check::bit_step))]
 fn shift(r: u16) -> u16
     ensures { result ≡ bit_step r 0 }
 {
@@ -187,6 +188,7 @@ fn clean(cells: &[u16]) -> bool
 }
 
 // Whether cells are an area that is good: its bytes and its check, all recorded, and the check agrees.
+#[tactic(auto, using(crate::proofs::Cells::clean_good, crate::proofs::Cells::short_bad))]
 pub fn good(cells: &[u16]) -> bool
     ensures { result ≡ good_cells (length cells.now - check_bytes) cells.now }
 {
