@@ -5,6 +5,7 @@ use Prim.Native.Nat.{ℕ, zero, suc, ◌+◌, ◌*◌, ◌/◌, ◌%◌, ◌^◌
 use native.Mathlib.Omega.{arith}
 use lib.ListN.{length, take, drop, get_or, take-append-drop}
 use lib.Seq.{drop-drop}
+use Rattle.std.specs.Int.{w64, from_be_bytes}
 use Rattle.std.specs.List.{fold}
 use Rattle.std.specs.Simd.{first_chunks}
 use Rattle.cells.specs.Cells.{bytes_of}
@@ -55,16 +56,22 @@ bytes_in_lem a b c d ha hb hc hd =
     same_four (r / 2 ^ 24) (r / 2 ^ 16) (r / 2 ^ 8) r a b c d (omega arith) (omega arith) (omega arith) (omega arith)
 
 -- the bytes of a word's four cells
-pub half_bytes : (w : ℕ)
-    → bits (low_bytes (w % 256 * 16777216 + w / 65536 % 256 * 65536 + w / 4294967296 % 256 * 256 + w / 281474976710656 % 256)) ≡ bits (cells_in w)
-unfolding cells_in
+half : ℕ → ℕ
+half w = w % 256 * 16777216 + w / 65536 % 256 * 65536 + w / 4294967296 % 256 * 256 + w / 281474976710656 % 256
+
+half_bytes : (w : ℕ) → bits (low_bytes (half w)) ≡ bits (cells_in w)
+unfolding half cells_in
 half_bytes w =
     bytes_in_lem (w % 256) (w / 65536 % 256) (w / 4294967296 % 256) (w / 281474976710656 % 256) (omega arith) (omega arith) (omega arith) (omega arith)
     ∙ same_four (w % 256) (w / 65536 % 256) (w / 4294967296 % 256) (w / 281474976710656 % 256) w (w / 2 ^ 16) (w / 2 ^ 32) (w / 2 ^ 48)
     (omega arith) (omega arith) (omega arith) (omega arith)
 
+half_lt : (w : ℕ) → half w < 2 ^ 32
+unfolding half
+half_lt w = omega arith
+
 -- four bytes and four more
-pub bytes-both : (x y : ℕ) → y < 2 ^ 32 → bits (bytes_in (x * 4294967296 + y)) ≡ bits (low_bytes x ++ low_bytes y)
+bytes-both : (x y : ℕ) → y < 2 ^ 32 → bits (bytes_in (x * 4294967296 + y)) ≡ bits (low_bytes x) ++ bits (low_bytes y)
 unfolding bytes_in low_bytes
 bytes-both x y h =
     let w : ℕ = x * 4294967296 + y in
@@ -72,7 +79,22 @@ bytes-both x y h =
     bits-append (low_bytes (w / 2 ^ 32)) (low_bytes w)
     ∙ ap₂ ◌++◌ (ap (λ (n : ℕ). bits (low_bytes n)) e)
     (same_four (w / 2 ^ 24) (w / 2 ^ 16) (w / 2 ^ 8) w (y / 2 ^ 24) (y / 2 ^ 16) (y / 2 ^ 8) y (omega arith) (omega arith) (omega arith) (omega arith))
-    ∙ sym (bits-append (low_bytes x) (low_bytes y))
+
+halves : (a b c d e f g h : ℕ)
+    → from_be_bytes w64 (a ∷ b ∷ c ∷ d ∷ e ∷ f ∷ g ∷ h ∷ [])
+    ≡ (a * 16777216 + b * 65536 + c * 256 + d) * 4294967296 + (e * 16777216 + f * 65536 + g * 256 + h)
+halves a b c d e f g h = omega arith
+
+abbrev pub every_second : ℕ → List ℕ
+every_second w = w % 256 ∷ w / 65536 % 256 ∷ w / 4294967296 % 256 ∷ w / 281474976710656 % 256 ∷ []
+
+-- every second byte of two words, as one number
+pub packed_bytes : (v w : ℕ)
+    → bits (bytes_in (from_be_bytes w64 (every_second v ++ every_second w))) ≡ bits (cells_in v ++ cells_in w)
+unfolding half
+packed_bytes v w =
+    ap (λ (n : ℕ). bits (bytes_in n)) (halves _ _ _ _ _ _ _ _)
+    ∙ bytes-both (half v) (half w) (half_lt w) ∙ ap₂ ◌++◌ (half_bytes v) (half_bytes w) ∙ sym (bits-append (cells_in v) (cells_in w))
 
 -- ---- cells four at a time
 

@@ -100,20 +100,13 @@ fn fold(s: Rest, w: u64) -> Rest
     }
 }
 
-// The bytes of four cells, the first of them the highest.
-fn packed_half(w: u64) -> u64
-    ensures { (result < 2 ^ 32) × (bits (low_bytes result) ≡ bits (cells_in w)) }
-{
-    w % 256 * 0x1000000
-        + w / 0x10000 % 256 * 0x10000
-        + w / 0x100000000 % 256 * 256
-        + w / 0x1000000000000 % 256
-}
-
+// The bytes of eight cells, the first of them the highest.
 fn packed(v: u64, w: u64) -> u64
     ensures { bits (bytes_in result) ≡ bits (cells_in v ++ cells_in w) }
 {
-    packed_half(v) * 0x100000000 + packed_half(w)
+    let [a, _, b, _, c, _, d, _] = v.to_le_bytes();
+    let [e, _, f, _, g, _, h, _] = w.to_le_bytes();
+    u64::from_be_bytes([a, b, c, d, e, f, g, h])
 }
 
 // For s = 4 a word of 64 bits taken 64 bits on, for s = 2 one of 32 taken 32 bits on, by x^(16 s) = x^(12 s) + x^(5 s) + 1.
