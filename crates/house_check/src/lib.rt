@@ -136,7 +136,7 @@ fn ended(s: Rest, cells: &[u16]) -> u16
 {
     let table = TABLE;
     let last = last_bytes(s);
-    let r = by_table(&table, 0, &last[..]);
+    let r = by_table(&table, 0, &last);
     by_table(&table, r, cells)
 }
 
