@@ -143,9 +143,10 @@ fn ended(s: Rest, cells: &[u16]) -> u16
 fn by_folding(cells: &[u16]) -> u16
     ensures { result ≡ check (bytes_of cells.now) }
 {
-    let (words, last) = cells.as_chunks::<WORD_CELLS>();
+    let (fours, last) = cells.as_chunks::<WORD_CELLS>();
+    // zeros in front make no difference
     let mut s = Rest::default();
-    for four in words {
+    for four in fours {
         s = fold(s, word(four));
     }
     ended(s, last)

@@ -1,4 +1,4 @@
--- `house_check::by_folding` meets its contract. The invariant: the check of the rest is the register after the cells of the words so far.
+-- `house_check::by_folding` meets its contract. The invariant: the check of the rest is the register after the fours so far.
 use mathlib.Core.Path.{◌≡◌, refl, ap, ap₂, ◌∙◌}
 use mathlib.Core.List.{List}
 use Prim.Native.Nat.{ℕ, ◌/◌}
