@@ -43,7 +43,7 @@ fn byte_in(r: u16, cell: u16) -> u16
     x
 }
 
-// The check of a few cells. LLVM makes a table of its own of the shifts, which nobody has to copy.
+// The check of a few cells. LLVM makes a table of its own of the shifts.
 fn by_bits(cells: &[u16]) -> u16
     ensures { result ≡ check (bytes_of cells.now) }
 {
@@ -134,10 +134,9 @@ fn last_bytes(s: Rest) -> [u16; 4]
 fn ended(s: Rest, cells: &[u16]) -> u16
     ensures { result ≡ feed (check (rest s)) (bits (bytes_of cells.now)) }
 {
-    let table = TABLE;
     let last = last_bytes(s);
-    let r = by_table(&table, 0, &last);
-    by_table(&table, r, cells)
+    let r = by_table(&TABLE, 0, &last);
+    by_table(&TABLE, r, cells)
 }
 
 fn by_folding(cells: &[u16]) -> u16
