@@ -2,14 +2,14 @@
 use mathlib.Core.Path.{◌≡◌, refl, sym, ap, ap₂, ◌∙◌, subst}
 use mathlib.Core.Bool.{Bool, true, false}
 use mathlib.Core.List.{List, [], ◌∷◌, ◌++◌}
-use Prim.Native.Nat.{ℕ, zero, suc, ◌+◌, ◌*◌, ◌/◌, ◌%◌, ◌<◌, ◌≤◌}
-use native.Mathlib.Numerals.{add-one}
+use Prim.Native.Nat.{ℕ, zero, suc, ◌+◌, ◌*◌, ◌/◌, ◌%◌, ◌<◌}
 use native.Mathlib.Omega.{arith}
 use lib.Dec.{eqb, lit<}
 use native.Mathlib.Decide.{ℕ_discrete}
 use borrow.Author.Tests.{eq-eqb, ne_eqb}
-use lib.ListN.{length, take, drop, get_or, drop_of_length-le, length-append, length-map}
-use lib.Seq.{drop-cons, take-append_seam, get_or-append_seam, get_or-append-add}
+use lib.ListN.{length, take, get_or, length-append, length-map}
+use lib.Seq.{take-append_seam, get_or-append_seam, get_or-append-add}
+use Rattle.std.specs.List.{fold}
 use Rattle.cells.specs.Cells.{both, cell_of, bytes_of, cells_of, all_bytes}
 use Rattle.cells.proofs.Laws.{length-bytes_of, get_or-bytes_of}
 use Rattle.cells.proofs.Marks.{both_never}
@@ -30,22 +30,11 @@ unfolding byte_bits
 low_bits c t =
     eight (omega arith) (omega arith) (omega arith) (omega arith) (omega arith) (omega arith) (omega arith) (omega arith)
 
--- what is left of the cells from the i-th on, with register r
-unfoldable pub left : List ℕ → ℕ → ℕ → ℕ
-left cells i r = feed r (bits (bytes_of (drop i cells)))
-
-pub left-next : (cells : List ℕ) (i r : ℕ) → i < length cells → left cells i r ≡ left cells (i + 1) (feed r (byte_bits (get_or cells i 0) []))
-unfolding left feed byte_bits bits bytes_of
-left-next cells i r h =
-    let c : ℕ = get_or cells i 0 in
-    let t : List ℕ = drop (suc i) cells in
-    sym (ap (λ (n : ℕ). feed r (byte_bits c (bits (bytes_of (drop n cells))))) (add-one i)
-    ∙ ap (feed r) (sym (low_bits c (bits (bytes_of t))))
-    ∙ ap (λ (l : List ℕ). feed r (bits (bytes_of l))) (sym (drop-cons cells i 0 h)))
-
-pub left_none : (cells : List ℕ) (i r : ℕ) → length cells ≤ i → left cells i r ≡ r
-unfolding left feed bits bytes_of
-left_none cells i r h = ap (λ (t : List ℕ). feed r (bits (bytes_of t))) (drop_of_length-le cells h)
+-- cells one after another into the register
+pub fed : (t : List ℕ) (r : ℕ) → fold (λ r c. feed r (byte_bits c [])) r t ≡ feed r (bits (bytes_of t))
+unfolding feed byte_bits bits bytes_of
+fed [] r = refl
+fed (c ∷ t) r = fed t (feed r (byte_bits c [])) ∙ ap (λ (x : ℕ). feed x (bits (bytes_of t))) (ap (feed r) (sym (low_bits c [])))
 
 -- ---- an area's cells
 

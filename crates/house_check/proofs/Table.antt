@@ -9,6 +9,8 @@ use lib.Dec.{eqb, lit<}
 use borrow.Author.Tests.{eqb-true}
 use lib.ListN.{get_or, replicate}
 use lib.Bits.{bit_xor, xor_lt, xor_zero_l, xor_zero_r, xor_comm, xor_block, xor_shifted}
+use Rattle.std.specs.List.{fold}
+use Rattle.cells.specs.Cells.{bytes_of}
 use Rattle.cells.proofs.Numbers.{Bytes}
 use Rattle.house_check.specs.Check.{bit_step, feed, byte_bits, bits, check}
 use Rattle.house_check.specs.Table.{remainders, table_step, table_feed}
@@ -77,6 +79,12 @@ unfolding table_feed feed bits byte_bits
 table_feed_lem [] r hv hr = refl
 table_feed_lem (b ∷ v) r hv hr =
     table_feed_lem v (table_step r b) (λ i. hv (suc i)) (step_lt r b hr (hv 0)) ∙ ap (λ (x : ℕ). feed x (bits v)) (table_step_lem r b hr (hv 0))
+
+-- cells one after another by the table
+pub table_fed : (t : List ℕ) (r : ℕ) → fold (λ r c. table_step r (c % 256)) r t ≡ table_feed r (bytes_of t)
+unfolding table_feed bytes_of
+table_fed [] r = refl
+table_fed (c ∷ t) r = table_fed t (table_step r (c % 256))
 
 -- the table agrees with the check bit by bit, at every entry and over every number of bytes
 pub record TableAgrees : Type 0 where

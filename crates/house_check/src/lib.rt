@@ -3,7 +3,7 @@
 #![tactic(auto)]
 
 ghost use Rattle.std.specs.Prelude.{◌≡◌, [], ◌++◌, ◌+◌, ◌-◌, ◌^◌, ◌<◌, ◌≤◌, eqb, length};
-ghost use Rattle.cells.specs.Cells.{both, part, bytes_of, all_bytes};
+ghost use Rattle.cells.specs.Cells.{both, bytes_of, all_bytes};
 ghost use Rattle.house_check.specs.Check.{check_bytes, good_cells, bit_step, feed, byte_bits, bits, check};
 ghost use Rattle.house_check.specs.Table.{remainders, table_feed};
 ghost use Rattle.house_check.specs.Fold.{cells_in, rest, low_bytes, bytes_in, spread};
@@ -22,6 +22,7 @@ const CHECK_BYTES: usize = 2;
 // ---- bit by bit
 
 // A zero bit into the register.
+#[tactic(auto, unfolding(crate::specs::Check::bit_step))]
 fn shift(r: u16) -> u16
     ensures { result ≡ bit_step r 0 }
 {
@@ -36,25 +37,17 @@ fn byte_in(r: u16, cell: u16) -> u16
     ensures { result ≡ feed r (byte_bits cell []) }
 {
     let mut x = r ^ (cell % 256 * 256);
-    let mut k: usize = 0;
-    while k < BYTE_BITS {
+    for _ in 0..BYTE_BITS {
         x = shift(x);
-        k += 1;
     }
     x
 }
 
-// The check of a few cells. LLVM makes a table of its own of the shifts, which nobody has to copy.
+// The check of a few cells. LLVM makes a table of its own of the shifts.
 fn by_bits(cells: &[u16]) -> u16
     ensures { result ≡ check (bytes_of cells.now) }
 {
-    let mut r: u16 = 0;
-    let mut i = 0;
-    while i < cells.len() {
-        r = byte_in(r, cells[i]);
-        i += 1;
-    }
-    r
+    cells.iter().fold(0, |r, cell| byte_in(r, *cell))
 }
 
 // ---- by the table
@@ -65,11 +58,9 @@ fn by_table(table: &[u16; 256], start: u16, cells: &[u16]) -> u16
     ensures { result ≡ table_feed start (bytes_of cells.now) }
 {
     let mut r = start;
-    let mut i = 0;
-    while i < cells.len() {
-        let b = (r / 256) ^ (cells[i] % 256);
-        r = (r % 256 * 256) ^ table[b as usize];
-        i += 1;
+    for cell in cells {
+        let b = (r / 256) ^ (cell % 256);
+        r = (r % 256 * 256) ^ table[usize::from(b)];
     }
     r
 }
@@ -77,7 +68,7 @@ fn by_table(table: &[u16; 256], start: u16, cells: &[u16]) -> u16
 // ---- by folding
 
 // Sixteen cells, four to a word, the first of them the lowest. All cells before them were folded into them.
-#[derive(Clone, Copy)]
+#[derive(Clone, Copy, Default)]
 struct Rest {
     a: u64,
     b: u64,
@@ -85,21 +76,15 @@ struct Rest {
     d: u64,
 }
 
-fn wide(cell: u16) -> u64
-    ensures { (result ≡ cell) × (result < 65536) }
-{
-    cell as u64
-}
-
 // Four cells as a word.
-fn word(cells: &[u16], at: usize) -> u64
-    requires { at + 4 ≤ length cells.now }
-    ensures { bits (cells_in result) ≡ bits (part cells.now at 4) }
+fn word(cells: &[u16; WORD_CELLS]) -> u64
+    ensures { bits (cells_in result) ≡ bits cells.now }
 {
-    wide(cells[at])
-        + wide(cells[at + 1]) * 0x10000
-        + wide(cells[at + 2]) * 0x100000000
-        + wide(cells[at + 3]) * 0x1000000000000
+    let [a, b, c, d] = *cells;
+    u64::from(a)
+        + u64::from(b) * 0x10000
+        + u64::from(c) * 0x100000000
+        + u64::from(d) * 0x1000000000000
 }
 
 // Four cells more. The first four of the rest go into those 4, 11 and 16 cells later, and are left out.
@@ -115,20 +100,13 @@ fn fold(s: Rest, w: u64) -> Rest
     }
 }
 
-// The bytes of four cells, the first of them the highest.
-fn packed_half(w: u64) -> u64
-    ensures { (result < 2 ^ 32) × (bits (low_bytes result) ≡ bits (cells_in w)) }
-{
-    w % 256 * 0x1000000
-        + w / 0x10000 % 256 * 0x10000
-        + w / 0x100000000 % 256 * 256
-        + w / 0x1000000000000 % 256
-}
-
+// The bytes of eight cells, the first of them the highest.
 fn packed(v: u64, w: u64) -> u64
     ensures { bits (bytes_in result) ≡ bits (cells_in v ++ cells_in w) }
 {
-    packed_half(v) * 0x100000000 + packed_half(w)
+    let [a, _, b, _, c, _, d, _] = v.to_le_bytes();
+    let [e, _, f, _, g, _, h, _] = w.to_le_bytes();
+    u64::from_be_bytes([a, b, c, d, e, f, g, h])
 }
 
 // For s = 4 a word of 64 bits taken 64 bits on, for s = 2 one of 32 taken 32 bits on, by x^(16 s) = x^(12 s) + x^(5 s) + 1.
@@ -148,40 +126,29 @@ fn last_bytes(s: Rest) -> [u16; 4]
 {
     let e = packed(s.c, s.d) ^ spread(packed(s.a, s.b), 4);
     let g = e ^ spread(e >> 32, 2);
-    [
-        (g / 0x1000000 % 256) as u16,
-        (g / 0x10000 % 256) as u16,
-        (g / 256 % 256) as u16,
-        (g % 256) as u16,
-    ]
+    let [.., a, b, c, d] = g.to_be_bytes();
+    [u16::from(a), u16::from(b), u16::from(c), u16::from(d)]
 }
 
 // The register after the rest and the cells behind it.
 fn ended(s: Rest, cells: &[u16]) -> u16
     ensures { result ≡ feed (check (rest s)) (bits (bytes_of cells.now)) }
 {
-    let table = TABLE;
     let last = last_bytes(s);
-    let r = by_table(&table, 0, &last[..]);
-    by_table(&table, r, cells)
+    let r = by_table(&TABLE, 0, &last);
+    by_table(&TABLE, r, cells)
 }
 
 fn by_folding(cells: &[u16]) -> u16
     ensures { result ≡ check (bytes_of cells.now) }
 {
-    let n = cells.len();
-    let mut at = 0;
-    let mut s = Rest {
-        a: 0,
-        b: 0,
-        c: 0,
-        d: 0,
-    };
-    while WORD_CELLS <= n - at {
-        s = fold(s, word(cells, at));
-        at += WORD_CELLS;
+    let (fours, last) = cells.as_chunks::<WORD_CELLS>();
+    // zeros in front make no difference
+    let mut s = Rest::default();
+    for four in fours {
+        s = fold(s, word(four));
     }
-    ended(s, &cells[at..])
+    ended(s, last)
 }
 
 // ---- the check
@@ -203,15 +170,7 @@ pub fn check_of(cells: &[u16]) -> u16
 pub fn all_bytes(cells: &[u16]) -> bool
     ensures { result ≡ all_bytes cells.now }
 {
-    let mut all = true;
-    let mut i = 0;
-    while i < cells.len() {
-        if cells[i] / 256 != 1 {
-            all = false;
-        }
-        i += 1;
-    }
-    all
+    cells.iter().fold(true, |all, cell| all & (cell / 256 == 1))
 }
 
 // Whether cells are all recorded bytes and leave no remainder.
@@ -222,6 +181,7 @@ fn clean(cells: &[u16]) -> bool
 }
 
 // Whether cells are an area that is good: its bytes and its check, all recorded, and the check agrees.
+#[tactic(auto, using(crate::proofs::Cells::clean_good, crate::proofs::Cells::short_bad))]
 pub fn good(cells: &[u16]) -> bool
     ensures { result ≡ good_cells (length cells.now - check_bytes) cells.now }
 {

@@ -1,14 +1,11 @@
--- `house_check::by_table` meets its contract: each turn is one step of the model's, since the table lent is the model's. The invariant: all the
--- cells from the start are those left from the register in hand, and that is a register.
+-- `house_check::by_table` meets its contract: each turn is one step of the model's, since the table lent is the model's. The invariant: the register
+-- is that after the cells so far.
 use mathlib.Core.Path.{◌≡◌}
-use Prim.Native.Nat.{◌-◌, ◌≤◌, ◌<◌}
-use lib.ListN.{length, drop}
-use Rattle.cells.specs.Cells.{bytes_of}
-use Rattle.house_check.specs.Table.{table_feed}
+use Prim.Native.Nat.{◌%◌}
+use lib.ListN.{take}
+use Rattle.std.specs.List.{fold}
+use Rattle.house_check.specs.Table.{table_step}
 use Rattle.house_check.proofs.by_table.Given as goal
 
-abbrev pub invariant-loop-i : goal.invariant-loop-i
-invariant-loop-i l = (l.i ≤ length l.cells) × (table_feed l.start (bytes_of l.cells) ≡ table_feed l.r (bytes_of (drop l.i l.cells))) × (l.r < 65536)
-
-abbrev pub decreases-loop-i : goal.decreases-loop-i
-decreases-loop-i l = length l.cells - l.i
+abbrev pub invariant-loop-cell : goal.invariant-loop-cell
+invariant-loop-cell l = l.r ≡ fold (λ r c. table_step r (c % 256)) l.start (take l.cell-index l.cells)

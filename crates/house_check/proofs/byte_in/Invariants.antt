@@ -1,13 +1,10 @@
 -- `house_check::byte_in` meets its contract. The invariant: the register, with the zeros that are left, comes to what the byte leaves.
 use mathlib.Core.Path.{◌≡◌}
 use mathlib.Core.List.{[]}
-use Prim.Native.Nat.{◌-◌, ◌≤◌}
+use Prim.Native.Nat.{◌-◌}
 use lib.ListN.{replicate}
 use Rattle.house_check.specs.Check.{feed, byte_bits}
 use Rattle.house_check.proofs.byte_in.Given as goal
 
-abbrev pub invariant-loop-k : goal.invariant-loop-k
-invariant-loop-k l = (l.k ≤ 8) × (feed l.x (replicate (8 - l.k) 0) ≡ feed l.r (byte_bits l.cell []))
-
-abbrev pub decreases-loop-k : goal.decreases-loop-k
-decreases-loop-k l = 8 - l.k
+abbrev pub invariant-loop : goal.invariant-loop
+invariant-loop l = feed l.x (replicate (8 - l.counter) 0) ≡ feed l.r (byte_bits l.cell [])

@@ -13,5 +13,6 @@ returns c =
     let x = c.packed-2 in
     let y = c.packed in
     let s = c.args.s in
-    last_four s.a s.b s.c s.d x.result y.result p.result c.spread-2.result
-    (search rules) (xor_lt 64 y.result p.result (search rules) (search rules)) x.ensures y.ensures p.ensures c.spread-2.ensures
+    rw (c.from.ensures, c.from-2.ensures, c.from-3.ensures, c.from-4.ensures, c.to_be_bytes.ensures)
+    (last_four s.a s.b s.c s.d x.result y.result p.result c.spread-2.result
+    (search rules) (xor_lt 64 y.result p.result (search rules) (search rules)) x.ensures y.ensures p.ensures c.spread-2.ensures)
