@@ -3,11 +3,11 @@ use Prim.Native.Nat.{ℕ, suc, ◌+◌, ◌*◌, ◌<◌, min}
 use mathlib.Core.Path.{◌≡◌, refl, sym, ap, ap₂, ◌∙◌}
 use mathlib.Core.List.{List, [], ◌∷◌, map}
 use native.Mathlib.Omega.{arith}
-use lib.ListN.{length, get_or, take, length-take, length-map, get_or-map}
+use lib.ListN.{length, take, length-take, length-map, get_or-map}
 use borrow.Author.Tests.{eq-eqb, ne_eqb, lt-ltb, le-ltb}
 use Rattle.std.specs.declared.cmp.Ordering.{Ordering}
 use Rattle.std.specs.declared.cmp.Ordering.TheVariants.{Less, Equal, Greater}
-use Rattle.std.specs.Ordering.{nat_cmp, ordering_then}
+use Rattle.std.specs.Ordering.{nat_cmp}
 use Rattle.std.specs.Cmp.Lexicographic.{slice_cmp}
 use Rattle.std.proofs.lemmas.Cmp.{ranked, by_ranked}
 use Rattle.std.proofs.lemmas.List.{take_min}
@@ -41,13 +41,14 @@ compared_lists n (b ∷ x) (c ∷ y) l bx by =
     (λ e h. rw e (compared_more _ _ (number_less _ _ y x (omega arith) (λ i. by (suc i)) (omega arith))))
 
 -- cut to one length
-pub compared_cut : (f v : List ℕ) (m : ℕ) → m ≡ min (length f) (length v) → Bytes v
-    → slice_cmp nat_cmp (map byte_of (take m f)) (take m v) ≡ compared_bytes f v
+pub compared_cut : (f v : List ℕ) (m : ℕ) (r : Ordering) → r ≡ slice_cmp nat_cmp (map byte_of (take m f)) (take m v)
+    → m ≡ min (length f) (length v) → Bytes v → r ≡ compared_bytes f v
 unfolding compared_bytes bytes_of part
-compared_cut f v m q b =
-    let cells : take m f ≡ take (length v) f = ap (λ (k : ℕ). take k f) {x = m} {y = min (length v) (length f)} (omega arith) ∙ take_min (length v) f in
+compared_cut f v m r p q b =
+    let on_track : take m f ≡ take (length v) f = ap (λ (k : ℕ). take k f) {x = m} {y = min (length v) (length f)} (omega arith) ∙ take_min (length v) f in
     let sent : take m v ≡ take (length f) v = ap (λ (k : ℕ). take k v) q ∙ take_min (length f) v in
-    sym (compared_lists 0 (map byte_of (take m f)) (take m v)
+    p
+    ∙ sym (compared_lists 0 (map byte_of (take m f)) (take m v)
     (omega (arith, length-map (take m f) byte_of, length-take m f, length-take m v))
     (λ i. rw (get_or-map byte_of (take m f) i 0) (omega arith)) (part_bytes v 0 m b))
-    ∙ ap₂ (λ (x y : List ℕ). compared (number (map byte_of x)) (number y)) cells sent
+    ∙ ap₂ (λ (x y : List ℕ). compared (number (map byte_of x)) (number y)) on_track sent

@@ -18,6 +18,7 @@ fn by_first(on_track: &[u16], sent: &[u8]) -> Ordering
 }
 
 // A field's bytes on the track against those sent, as unsigned numbers: as many bytes as both have.
+#[tactic(auto, using(crate::proofs::Laws::compared_cut))]
 pub fn compare(field: &[u16], sent: &[u8]) -> Ordering
     ensures { result ≡ compared_bytes field.now sent.now }
 {

@@ -9,10 +9,9 @@ ghost use Rattle.turn.specs.Turn.{alone, report_of};
 ghost use Rattle.command.specs.Command.{flag_bytes, id_bytes, satisfies, satisfies_field, equal_only, Sighted, sight, comparison, search_turn};
 ghost use Rattle.searches.specs.Field.{field_first, field_length};
 
-use std::cmp::Ordering;
-
 use areas::Counts;
 use command::Job;
+use std::cmp::Ordering;
 use table::{How, Names};
 use turn::{Ending, Report, Transfer};
 
