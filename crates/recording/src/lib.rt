@@ -80,6 +80,6 @@ pub fn write_count(track: &mut [u16], c: usize, flag: u8, bytes: &[u8])
 pub fn wipe(track: &mut [u16], from: usize)
     ensures { track.new ≡ wiped track.old from }
 {
-    let end = from.min(track.len());
-    track[end..].fill(GAP);
+    let start = from.min(track.len());
+    track[start..].fill(GAP);
 }
