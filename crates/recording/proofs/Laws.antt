@@ -1,7 +1,7 @@
 -- Laws of what is recorded: cells as bytes are recorded in them, zeros behind the bytes, the check behind them, gaps to the end.
 use Prim.Native.Nat.{ℕ, zero, suc, ◌+◌, ◌-◌, ◌/◌, ◌%◌, ◌<◌, min}
 use mathlib.Core.Path.{◌≡◌, refl, sym, ap, ap₂, ◌∙◌}
-use mathlib.Core.List.{List, [], ◌∷◌, ◌++◌, map-append, append-nil, append_assoc}
+use mathlib.Core.List.{List, [], ◌∷◌, ◌++◌, map, map-append, append-nil, append_assoc}
 use native.Mathlib.Numerals.{add-one, unary_clauses}
 use native.Mathlib.Omega.{arith}
 use lib.ListN.{length, get_or, take, drop, set, replicate, length-map, length-append, length-drop, length-take, drop_of_length-le}
@@ -19,23 +19,33 @@ length-cells_of : (v : List ℕ) → length (cells_of v) ≡ length v
 unfolding cells_of
 length-cells_of v = length-map v cell_of
 
--- ---- bytes recorded one after another, in the cells d
+-- ---- one after another: of the cells or bytes d, one more is what f makes of v's
 
-one_more : (d v : List ℕ) (j : ℕ) → j < length v → length v ≡ length d
-    → set (take j (cells_of v) ++ drop j d) j (cell_of (get_or v j 0)) ≡ take (suc j) (cells_of v) ++ drop (suc j) d
-unfolding cells_of
-one_more d [] j h l = absurd (omega arith)
-one_more [] (b ∷ v) j h l = absurd (omega arith)
-one_more (a ∷ d) (b ∷ v) zero h l = refl
-one_more (a ∷ d) (b ∷ v) (suc j) h l = ap (λ (t : List ℕ). cell_of b ∷ t) (one_more d v j (omega arith) (omega arith))
+one_more : (f : ℕ → ℕ) (d v : List ℕ) (j : ℕ) → j < length v → length v ≡ length d
+    → set (take j (map f v) ++ drop j d) j (f (get_or v j 0)) ≡ take (suc j) (map f v) ++ drop (suc j) d
+one_more f d [] j h l = absurd (omega arith)
+one_more f [] (b ∷ v) j h l = absurd (omega arith)
+one_more f (a ∷ d) (b ∷ v) zero h l = refl
+one_more f (a ∷ d) (b ∷ v) (suc j) h l = ap (λ (t : List ℕ). f b ∷ t) (one_more f d v j (omega arith) (omega arith))
+
+pub map_more : (f : ℕ → ℕ) (d v : List ℕ) (j x : ℕ) → x ≡ f (get_or v j 0) → j < length v → length v ≡ length d
+    → set (take j (map f v) ++ drop j d) j x ≡ take (j + 1) (map f v) ++ drop (j + 1) d
+map_more f d v j x e h l = rw (e, add-one j) (one_more f d v j h l)
+
+pub map_all : (f : ℕ → ℕ) (d v : List ℕ) (j : ℕ) → j ≡ length d → length v ≡ length d → take j (map f v) ++ drop j d ≡ map f v
+map_all f d v j e l =
+    rw (take_all j (map f v) (omega (arith, length-map v f)), drop_of_length-le d {i = j} (omega arith)) (append-nil (map f v))
+
+-- ---- bytes recorded
 
 pub record_more : (d v : List ℕ) (j x : ℕ) → x ≡ cell_of (get_or v j 0) → j < length v → length v ≡ length d
     → set (take j (cells_of v) ++ drop j d) j x ≡ take (j + 1) (cells_of v) ++ drop (j + 1) d
-record_more d v j x e h l = rw (e, add-one j) (one_more d v j h l)
+unfolding cells_of
+record_more = map_more cell_of
 
 pub record_all : (d v : List ℕ) (j : ℕ) → j ≡ length d → length v ≡ length d → take j (cells_of v) ++ drop j d ≡ cells_of v
-record_all d v j e l =
-    rw (take_all j (cells_of v) (omega (arith, length-cells_of v)), drop_of_length-le d {i = j} (omega arith)) (append-nil (cells_of v))
+unfolding cells_of
+record_all = map_all cell_of
 
 -- the bytes that are there, then zeros
 zeros : (n : ℕ) → replicate n 256 ≡ cells_of (padded n [])
@@ -83,7 +93,7 @@ padded-bytes (suc n) (b ∷ v) h (suc i) = padded-bytes n v (λ j. h (suc j)) i
 -- ---- whole areas and gaps, put into the track
 
 -- cells put in place of as many
-put_over : (l : List ℕ) (at k : ℕ) (v : List ℕ) → k ≡ length v → put_mid at k l v ≡ overlay l at v
+pub put_over : (l : List ℕ) (at k : ℕ) (v : List ℕ) → k ≡ length v → put_mid at k l v ≡ overlay l at v
 unfolding overlay
 put_over l at k v e =
     ap (λ (x : List ℕ). take at l ++ (v ++ x)) (ap (λ (n : ℕ). drop n (drop at l)) e ∙ drop-drop (length v) at l)
