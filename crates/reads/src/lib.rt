@@ -62,6 +62,7 @@ fn put_cells(cells: &[u16], into: &mut [u8])
     requires { length cells.now ≡ length into.old }
     ensures { into.new ≡ bytes_of cells.now }
 {
+    // Over both at once, by zip, the proof doesn't close: of what iter_mut lends there it knows the length alone.
     for (i, byte) in into.iter_mut().enumerate() {
         *byte = (cells[i] % 256) as u8;
     }
@@ -121,6 +122,7 @@ pub fn give(counted: bool, j: Job, track: &[u16], from: u32, into: &mut [u8])
 }
 
 // How many bytes those are.
+#[tactic(auto, unfolding(crate::specs::Inside::many_given))]
 fn many_given(counted: bool, names: Names, n: Counts) -> u32
     ensures { result ≡ many_given counted names n }
 {

@@ -28,6 +28,7 @@ fn record_given(area: &mut [u16], bytes: &[u8])
     requires { length bytes.now ≡ length area.old }
     ensures { area.new ≡ cells_of bytes.now }
 {
+    // Over both at once, by zip, the proof doesn't close: of what iter_mut lends there it knows the length alone.
     for (j, cell) in area.iter_mut().enumerate() {
         *cell = cell_of(bytes[j]);
     }

@@ -75,6 +75,7 @@ fn behind(key: bool) -> u16
 }
 
 // The first cell of the field.
+#[tactic(auto, unfolding(crate::specs::Field::field_first))]
 fn field_first(names: Names, place: u16) -> usize
     ensures { result ≡ field_first names place }
 {
@@ -93,6 +94,7 @@ fn record_length(key: bool, n: Counts) -> u16
 }
 
 // How many bytes the field has.
+#[tactic(auto, unfolding(crate::specs::Field::field_length))]
 fn field_length(names: Names, n: Counts) -> u16
     ensures { result ≡ field_length names n }
 {
