@@ -35,6 +35,7 @@ fn record_given(area: &mut [u16], bytes: &[u8])
 }
 
 // Bytes recorded in all cells of an area: those that are there, then zeros.
+#[tactic(auto, using(crate::proofs::Laws::record_both))]
 fn record_bytes(area: &mut [u16], bytes: &[u8])
     ensures { area.new ≡ cells_of (padded (length area.old) bytes.now) }
 {
@@ -45,6 +46,7 @@ fn record_bytes(area: &mut [u16], bytes: &[u8])
 }
 
 // The check of an area's bytes, recorded in its last two cells.
+#[tactic(auto, using(crate::proofs::Laws::check_put))]
 fn record_check(area: &mut [u16])
     requires { check_bytes ≤ length area.old }
     ensures { let bytes = take (length area.old - check_bytes) area.old in area.new ≡ bytes ++ cells_of (sixteen (check (bytes_of bytes))) }
