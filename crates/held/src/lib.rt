@@ -1,9 +1,9 @@
 // What the box holds from call to call, and the 64 bytes that a host keeps of it.
 #![tactic(auto)]
 
-ghost use Rattle.std.specs.Prelude.{◌≡◌, ◌+◌, ◌/◌, ◌%◌, ◌<◌, ◌≤◌, eqb, length, get_or, drop};
-ghost use Rattle.cells.specs.Cells.{pick, be16, overlay, padded, part};
-ghost use Rattle.held.specs.Held.{fresh, rested, held_bytes, bit, selection_no, selection_cell, encoded, all_zero, flags_fit, selection_encoded, encodes, is_set, selection_in, be32, decoded, kept};
+ghost use Rattle.std.specs.Prelude.{◌≡◌, eqb, length, get_or, drop};
+ghost use Rattle.cells.specs.Cells.{pick, part};
+ghost use Rattle.held.specs.Held.{fresh, rested, held_bytes, selection_no, selection_cell, encoded, all_zero, flags_fit, selection_encoded, encodes, is_set, selection_in, be32, decoded, kept};
 
 use hunt::Spot;
 use pack::{Cylinder, Head};
@@ -15,7 +15,7 @@ const HELD_BYTES: usize = 64;
 const LAYOUT: u8 = 1;
 
 // Where the head stands, and what sense says: this survives a chain.
-#[derive(Clone, Copy)]
+#[derive(Clone, Copy, Default)]
 pub struct Position {
     pub cylinder: Cylinder,
     pub head: Head,
@@ -23,8 +23,9 @@ pub struct Position {
     pub sense: Sense,
 }
 
-// What the commands of a chain leave for those after them.
-#[derive(Clone, Copy)]
+// What the commands of a chain leave for those after them. A flag stands beside its value here and in Channel, not around it: of the 64 bytes each is one
+// by itself, and `encoded-decoded` gives back all that `encodes` lets in, a mask whose flag is 0 too.
+#[derive(Clone, Copy, Default)]
 pub struct Orders {
     pub mask: u8,
     pub mask_set: bool,
@@ -37,7 +38,7 @@ pub struct Orders {
 }
 
 // The channel's part: whether a chain is going, its key, the next word's address, whether the word before was a TIC.
-#[derive(Clone, Copy)]
+#[derive(Clone, Copy, Default)]
 pub struct Channel {
     pub going: bool,
     pub key: u8,
@@ -45,7 +46,7 @@ pub struct Channel {
     pub after_tic: bool,
 }
 
-#[derive(Clone, Copy)]
+#[derive(Clone, Copy, Default)]
 pub struct Held {
     pub position: Position,
     pub orders: Orders,
@@ -58,28 +59,7 @@ impl Held {
     pub fn fresh() -> Held
         ensures { result ≡ fresh }
     {
-        Held {
-            position: Position {
-                cylinder: Cylinder(0),
-                head: Head(0),
-                place: 0,
-                sense: Sense { byte0: 0, byte1: 0 },
-            },
-            orders: Orders {
-                mask: 0,
-                mask_set: false,
-                before: 0,
-                whole: false,
-                tally: 0,
-                selection: None,
-            },
-            channel: Channel {
-                going: false,
-                key: 0,
-                next: 0,
-                after_tic: false,
-            },
-        }
+        Held::default()
     }
 
     // At a chain's end: the fresh box, but for where it stands and what sense says.
@@ -140,6 +120,7 @@ fn encodes_held(bytes: &[u8]) -> bool
         && zeros_from(bytes, 24)
 }
 
+// The selection, by its number in document 01's layout.
 #[tactic(auto, using(cells::proofs::Tests::tests), unfolding(crate::specs::Held::selection_in))]
 fn selection_in(bytes: &[u8]) -> Option<Spot>
     ensures { result ≡ selection_in bytes.now }
@@ -237,7 +218,6 @@ fn selection_parts(selection: Option<Spot>) -> (u8, u16)
 }
 
 // Bytes 0 to 23.
-#[tactic(auto, unfolding(crate::specs::Held::encoded))]
 fn first_bytes(h: Held) -> [u8; 24]
     ensures { result ≡ part (encoded h) 0 24 }
 {
@@ -275,7 +255,8 @@ fn first_bytes(h: Held) -> [u8; 24]
     ]
 }
 
-// The bytes of a held state stored, if there is room for just these.
+// The bytes of a held state stored, if there is room for just these. Whether they were is one test of the model, which C hears as 1 or 0: an Err would have no
+// more to say.
 pub fn put(held: &mut [u8], h: Held) -> bool
     ensures { (result ≡ eqb (length held.old) held_bytes)
         × (held.new ≡ pick (eqb (length held.old) held_bytes) (encoded h) held.old) }

@@ -12,10 +12,10 @@ const MOST_CYLINDERS: u32 = 203;
 
 const MOST_HEADS: u32 = 10;
 
-#[derive(Clone, Copy)]
+#[derive(Clone, Copy, Default)]
 pub struct Cylinder(pub u16);
 
-#[derive(Clone, Copy)]
+#[derive(Clone, Copy, Default)]
 pub struct Head(pub u16);
 
 // How many cylinders and heads the host says a pack has.

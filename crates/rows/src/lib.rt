@@ -22,7 +22,7 @@ pub enum Row {
 }
 
 // Sense bytes 0 and 1; the other four are always zero.
-#[derive(Clone, Copy)]
+#[derive(Clone, Copy, Default)]
 pub struct Sense {
     pub byte0: u8,
     pub byte1: u8,

@@ -1,13 +1,13 @@
 -- Each byte is made as the model has it.
 use Prim.Native.Nat.{ℕ, ◌/◌, ◌%◌, ◌^◌, ◌<◌}
-use mathlib.Core.Path.{◌≡◌, refl, ap, ◌∙◌}
+use mathlib.Core.Path.{◌≡◌, ap, ◌∙◌}
 use mathlib.Core.Bool.{Bool, true, false}
 use mathlib.Core.List.{List, [], ◌∷◌}
 use native.Mathlib.Omega.{arith}
 use lib.ListN.{get_or}
 use Rattle.std.specs.Int.{w16, w32, to_be_bytes, from_bool}
 use Rattle.cells.specs.Cells.{part}
-use Rattle.held.specs.Held.{layout, bit, selection_cell, encoded}
+use Rattle.held.specs.Held.{layout, bit, encoded}
 use Rattle.held.proofs.first_bytes.Goals as goal
 
 flag : (b : Bool) (n : ℕ) → n ≡ from_bool b → n ≡ bit b
