@@ -26,6 +26,7 @@ pub struct Shape {
 }
 
 // Whether a number is from 1 to the most.
+#[tactic(auto, using(cells::proofs::Tests::tests))]
 fn from_one_to(most: u32, n: u32) -> bool
     ensures { result ≡ from1_to most n }
 {
@@ -41,6 +42,7 @@ fn cells_on(g: Shape) -> usize
 }
 
 // Whether a pack's shape is right, and its number of cells.
+#[tactic(auto, unfolding(crate::specs::Pack::pack_fits))]
 pub fn pack_fits(g: Shape, count: usize) -> bool
     ensures { result ≡ pack_fits g count }
 {
@@ -49,26 +51,28 @@ pub fn pack_fits(g: Shape, count: usize) -> bool
 }
 
 // Where Seek and Seek Cylinder go.
+#[tactic(auto, using(cells::proofs::Tests::tests), unfolding(crate::specs::Pack::seek_to))]
 pub fn seek_to(g: Shape, bb: u16, c: Cylinder, h: Head) -> Result<(Cylinder, Head), Row>
     ensures { result ≡ seek_to g bb c h }
 {
     if bb != 0 {
         return Err(Row::BadSeek);
     }
-    if g.cylinders <= c.0 as u32 {
+    if g.cylinders <= u32::from(c.0) {
         return Err(Row::BadSeek);
     }
-    if g.heads <= h.0 as u32 {
+    if g.heads <= u32::from(h.0) {
         return Err(Row::BadSeek);
     }
     Ok((c, h))
 }
 
 // Where Seek Head goes, from a cylinder.
+#[tactic(auto, using(cells::proofs::Tests::tests), unfolding(crate::specs::Pack::seek_head))]
 pub fn seek_head(g: Shape, c: Cylinder, h: Head) -> Result<(Cylinder, Head), Row>
     ensures { result ≡ seek_head g c h }
 {
-    if g.heads <= h.0 as u32 {
+    if g.heads <= u32::from(h.0) {
         return Err(Row::BadSeek);
     }
     Ok((c, h))
@@ -79,8 +83,8 @@ pub fn start_of(g: Shape, c: Cylinder, h: Head) -> usize
     requires { (g.cylinders ≤ most_cylinders) × (g.heads ≤ most_heads) × OnPack g c h }
     ensures { (result ≡ start_of g c h) × (result + track_cells ≤ g.cylinders * g.heads * track_cells) }
 {
-    let cylinder = c.0 as usize;
-    let head = h.0 as usize;
+    let cylinder = usize::from(c.0);
+    let head = usize::from(h.0);
     let heads = g.heads as usize;
     (cylinder * heads + head) * cells::TRACK_CELLS
 }
