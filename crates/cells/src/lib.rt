@@ -52,7 +52,8 @@ impl Byte for u16 {
     ghost byte_at = { λ s at. byte_of (get_or s at 0) };
 
     fn byte(self) -> u8 {
-        (self % 256) as u8
+        let [_, low] = self.to_be_bytes();
+        low
     }
 
     ghost inside = { λ s at x h. ap byte_of (get_or_default s at 0 x h) };
@@ -87,13 +88,6 @@ pub fn pair(high: u8, low: u8) -> u16
     ensures { result ≡ high * 256 + low }
 {
     u16::from_be_bytes([high, low])
-}
-
-// Three bytes as one number, high byte first.
-pub fn triple(high: u8, middle: u8, low: u8) -> u32
-    ensures { result ≡ high * 65536 + middle * 256 + low }
-{
-    u32::from_be_bytes([0, high, middle, low])
 }
 
 // The lesser of two indexes or lengths.

@@ -217,7 +217,7 @@ fn selection_parts(selection: Option<Spot>) -> (u8, u16)
     }
 }
 
-// Bytes 0 to 23.
+// Bytes 0 to 23: an array, since there is no heap.
 fn first_bytes(h: Held) -> [u8; 24]
     ensures { result ≡ part (encoded h) 0 24 }
 {

@@ -57,7 +57,7 @@ pub fn sense_of(row: Row) -> Sense
     }
 }
 
-// How many bytes a command takes before a row shows.
+// How many bytes a command takes before a row shows: a count, which the table has for each row.
 #[tactic(auto, unfolding(crate::specs::Rows::row_takes))]
 pub fn row_takes(row: Row) -> u32
     ensures { result ≡ row_takes row }

@@ -27,7 +27,7 @@ pub const CHAINS: u8 = 0x40;
 pub const SUPPRESSES: u8 = 0x20;
 
 const FLAG_80: u8 = 0x80;
-// The low digit of a TIC. A word's code stays a number, as Word of the model has it: which codes are commands the table says, a crate above.
+// The low digit of a TIC.
 const TIC: u8 = 8;
 // The channel status of a program check.
 pub const PROGRAM_CHECK: u8 = 0x20;
@@ -136,7 +136,7 @@ fn test_command(bytes: usize, w: Word) -> Result<Directive, Cause>
     Ok(Directive::Obey(w))
 }
 
-// The tests of a word after a TIC or not.
+// The tests of a word after a TIC or not. A word's code stays a number, as Word of the model has it: which codes are commands a crate above says, `table`.
 #[tactic(auto, using(cells::proofs::Tests::tests), unfolding(crate::specs::Words::tested_word))]
 fn test_word(bytes: usize, after_tic: bool, w: Word) -> Result<Directive, Cause>
     ensures { (s : List ℕ) → length s ≡ bytes → result ≡ tested_word s after_tic w }
@@ -201,7 +201,7 @@ pub fn program_check(key: u8, at: u32, cause: Cause) -> Status
     status_for(key, at, 0x00, channel_for(cause), 0)
 }
 
-// The status word stored, at 64.
+// The status word stored, at 64. The key is half a byte, for which the library has no conversion.
 pub fn store_status(storage: &mut [u8], x: Status)
     requires { Storable storage.old x }
     ensures { storage.new ≡ stored storage.old x }
