@@ -8,6 +8,7 @@ use native.Mathlib.Nat.{add-zero}
 use native.Mathlib.Decide.{dec_le}
 use lib.ListN.{length, get_or, take, drop, set, length-append, length-take, length-drop, length-map, take-append-drop, get_or-map, get_or-append}
 use lib.Seq.{length-take-le, take-suc, take-take, take_all, take-append_seam, take_at, drop_at, drop-append-add, drop-drop, get_or-append-add, drop-cons, set_at, append_snoc, get_or-take, get_or-drop}
+use borrow.Rule.Slice.PartMut.{put_mid}
 use Rattle.cells.specs.Cells.{part, overlay, padded, byte_of, bytes_of}
 
 -- ---- bytes of cells
@@ -160,6 +161,11 @@ pub set-overlay : (l : List ℕ) (at x : ℕ) → at < length l → set l at x �
 set-overlay l at x h =
     ap (λ (y : List ℕ). set y at x) (sym (overlay_none l at)) ∙ ap (λ (k : ℕ). set (overlay l at []) k x) (sym (add-zero at))
     ∙ overlay-snoc l at [] x (omega arith)
+
+-- what a part that was lent holds now is laid over
+pub put_mid-overlay : (l : List ℕ) (at n : ℕ) (v : List ℕ) → n ≡ length v → put_mid at n l v ≡ overlay l at v
+unfolding overlay
+put_mid-overlay l at n v e = rw (e, drop-drop, append_assoc)
 
 -- ---- bytes with zeros for those that are missing
 

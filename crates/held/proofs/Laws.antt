@@ -1,49 +1,26 @@
--- Laws of the held state's bytes: zeros looked at one by one, two stores that make all 64.
-use Prim.Native.Nat.{ℕ, ◌+◌, ◌<◌, ◌≤◌}
-use mathlib.Core.Path.{◌≡◌, refl, sym, ap, ◌∙◌}
-use mathlib.Core.Bool.{Bool, true, false}
-use mathlib.Core.List.{List, [], ◌++◌, append-nil}
-use native.Mathlib.Numerals.{add-one}
-use native.Mathlib.Omega.{arith}
-use lib.ListN.{length, get_or, take, drop, set, drop_of_length-le}
-use lib.Seq.{drop-cons}
+-- Laws of the held state's bytes: zeros asked for by the library, two stores that make all 64.
+use Prim.Native.Nat.{ℕ}
+use mathlib.Core.Path.{◌≡◌, refl, ap₂}
+use mathlib.Core.Bool.{Bool, true, false, ◌&&◌}
+use mathlib.Core.List.{List, [], ◌∷◌, ◌++◌}
+use lib.ListN.{replicate}
 use lib.Dec.{eqb}
-use borrow.Author.Tests.{eq-eqb, ne_eqb}
-use Rattle.cells.specs.Cells.{both, part, overlay, padded}
-use Rattle.cells.proofs.Laws.{overlay-snoc, overlay-append, length-padded, padded-snoc}
+use Rattle.std.specs.List.{list_all}
+use Rattle.cells.specs.Cells.{both, part}
 use Rattle.held.specs.declared.{Held.Held}
-use Rattle.held.specs.Held.{held_bytes, layout, encoded, all_zero, flags_fit, selection_encoded, encodes}
+use Rattle.held.specs.Held.{encoded, all_zero}
 
--- ---- bytes looked at one by one
+both_is_and : (a b : Bool) → both a b ≡ (a && b)
+both_is_and true b = refl
+both_is_and false b = refl
 
-module _ (v : List ℕ) (i : ℕ) where
-  seen : i < length v → all_zero (drop i v) ≡ both (eqb (get_or v i 0) 0) (all_zero (drop (i + 1) v))
-  unfolding all_zero
-  seen h = rw (add-one, drop-cons v i 0 h)
+-- that all bytes are zeros, in the library's word
+pub zeros_are : (v : List ℕ) → all_zero v ≡ list_all (λ b. eqb b 0) v
+unfolding all_zero
+zeros_are [] = refl
+zeros_are (b ∷ v) = rw (← zeros_are v) (both_is_and (eqb b 0) (all_zero v))
 
-  pub zero_seen : i < length v → get_or v i 0 ≡ 0 → all_zero (drop i v) ≡ all_zero (drop (i + 1) v)
-  zero_seen h e = seen h ∙ ap (λ (b : Bool). both b (all_zero (drop (i + 1) v))) (eq-eqb (get_or v i 0) 0 e)
-
-  pub other_seen : i < length v → (get_or v i 0 ≡ 0 → ⊥) → all_zero (drop i v) ≡ false
-  other_seen h e = seen h ∙ ap (λ (b : Bool). both b (all_zero (drop (i + 1) v))) (ne_eqb (get_or v i 0) 0 e)
-
-  pub all_seen : length v ≤ i → all_zero (drop i v) ≡ true
-  unfolding all_zero
-  all_seen h = ap all_zero (drop_of_length-le v h)
-
--- ---- the bytes stored
-
-pub one_more : (l : List ℕ) (first : ℕ) (v : List ℕ) (j : ℕ) → first + j < length l
-    → set (overlay l first (padded j v)) (first + j) (get_or v j 0) ≡ overlay l first (padded (j + 1) v)
-one_more l first v j h =
-    let n : length (padded j v) ≡ j = length-padded j v in
-    ap (λ (m : ℕ). set (overlay l first (padded j v)) (first + m) (get_or v j 0)) (sym n)
-    ∙ overlay-snoc l first (padded j v) (get_or v j 0) (omega arith) ∙ rw (add-one, padded-snoc)
-
-pub both_stored : (v : List ℕ) (h : Held) (a b : List ℕ) → length v ≡ held_bytes → a ≡ part (encoded h) 0 12 → b ≡ part (encoded h) 12 12
-    → overlay (overlay v 0 (padded 12 a)) 12 (padded 52 b) ≡ encoded h
-unfolding overlay part padded encoded
-both_stored v h a b l p q =
-    let all = overlay-append v 0 (take 12 (encoded h)) (drop 12 (encoded h)) (omega arith) in
-    let none_left : drop held_bytes v ≡ [] = drop_of_length-le v {i = held_bytes} (omega arith) in
-    rw (p, q) (all ∙ ap (λ (x : List ℕ). encoded h ++ x) none_left ∙ append-nil (encoded h))
+-- the first 24 bytes, and the zeros behind them
+pub all_stored : (h : Held) (first rest : List ℕ) → first ≡ part (encoded h) 0 24 → rest ≡ replicate 40 0 → first ++ rest ≡ encoded h
+unfolding encoded part
+all_stored h first rest p q = ap₂ (λ (x y : List ℕ). x ++ y) p q

@@ -1,9 +1,9 @@
 // What the box holds from call to call, and the 64 bytes that a host keeps of it.
 #![tactic(auto)]
 
-ghost use Rattle.std.specs.Prelude.{◌≡◌, ◌+◌, ◌/◌, ◌%◌, ◌<◌, ◌≤◌, eqb, length, get_or, drop};
-ghost use Rattle.cells.specs.Cells.{pick, be16, overlay, padded, part};
-ghost use Rattle.held.specs.Held.{fresh, rested, held_bytes, bit, selection_no, selection_cell, encoded, all_zero, flags_fit, selection_encoded, encodes, is_set, selection_in, be32, decoded, kept};
+ghost use Rattle.std.specs.Prelude.{◌≡◌, eqb, length, get_or, drop};
+ghost use Rattle.cells.specs.Cells.{pick, part};
+ghost use Rattle.held.specs.Held.{fresh, rested, held_bytes, selection_no, selection_cell, encoded, all_zero, flags_fit, selection_encoded, encodes, is_set, selection_in, be32, decoded, kept};
 
 use hunt::Spot;
 use pack::{Cylinder, Head};
@@ -15,7 +15,7 @@ const HELD_BYTES: usize = 64;
 const LAYOUT: u8 = 1;
 
 // Where the head stands, and what sense says: this survives a chain.
-#[derive(Clone, Copy)]
+#[derive(Clone, Copy, Default)]
 pub struct Position {
     pub cylinder: Cylinder,
     pub head: Head,
@@ -23,8 +23,9 @@ pub struct Position {
     pub sense: Sense,
 }
 
-// What the commands of a chain leave for those after them.
-#[derive(Clone, Copy)]
+// What the commands of a chain leave for those after them. A flag stands beside its value here and in Channel, not around it: of the 64 bytes each is one
+// by itself, and `encoded-decoded` gives back all that `encodes` lets in, a mask whose flag is 0 too.
+#[derive(Clone, Copy, Default)]
 pub struct Orders {
     pub mask: u8,
     pub mask_set: bool,
@@ -37,7 +38,7 @@ pub struct Orders {
 }
 
 // The channel's part: whether a chain is going, its key, the next word's address, whether the word before was a TIC.
-#[derive(Clone, Copy)]
+#[derive(Clone, Copy, Default)]
 pub struct Channel {
     pub going: bool,
     pub key: u8,
@@ -45,7 +46,7 @@ pub struct Channel {
     pub after_tic: bool,
 }
 
-#[derive(Clone, Copy)]
+#[derive(Clone, Copy, Default)]
 pub struct Held {
     pub position: Position,
     pub orders: Orders,
@@ -54,67 +55,23 @@ pub struct Held {
 
 impl Held {
     // The fresh box.
+    #[tactic(auto, unfolding(crate::specs::Held::fresh, crate::specs::Held::fresh_position, crate::specs::Held::fresh_orders, crate::specs::Held::fresh_channel))]
     pub fn fresh() -> Held
         ensures { result ≡ fresh }
     {
-        Held {
-            position: Position {
-                cylinder: Cylinder(0),
-                head: Head(0),
-                place: 0,
-                sense: Sense { byte0: 0, byte1: 0 },
-            },
-            orders: Orders {
-                mask: 0,
-                mask_set: false,
-                before: 0,
-                whole: false,
-                tally: 0,
-                selection: None,
-            },
-            channel: Channel {
-                going: false,
-                key: 0,
-                next: 0,
-                after_tic: false,
-            },
-        }
+        Held::default()
     }
 
     // At a chain's end: the fresh box, but for where it stands and what sense says.
+    #[tactic(auto, unfolding(crate::specs::Held::rested))]
     pub fn rested(position: Position) -> Held
         ensures { result ≡ rested position }
     {
-        let clean = Held::fresh();
-        let orders = clean.orders;
-        let channel = clean.channel;
         Held {
             position,
-            orders,
-            channel,
+            ..Held::fresh()
         }
     }
-}
-
-// Two bytes from an index on, as one number.
-fn pair_at(bytes: &[u8], at: usize) -> u16
-    requires { at < held_bytes }
-    ensures { result ≡ be16 bytes.now at }
-{
-    cells::pair(cells::byte_at(bytes, at), cells::byte_at(bytes, at + 1))
-}
-
-// Four bytes from an index on, as one number.
-fn four_at(bytes: &[u8], at: usize) -> u32
-    requires { at < held_bytes }
-    ensures { result ≡ be32 bytes.now at }
-{
-    let i = at + 1;
-    let top = cells::byte_at(bytes, at);
-    let high = cells::byte_at(bytes, i);
-    let middle = cells::byte_at(bytes, i + 1);
-    let low = cells::byte_at(bytes, i + 2);
-    top as u32 * 16777216 + cells::triple(high, middle, low)
 }
 
 // Whether the byte at an index is a flag that is set.
@@ -128,73 +85,61 @@ fn set_at(bytes: &[u8], at: usize) -> bool
 fn zeros_from(bytes: &[u8], first: usize) -> bool
     ensures { result ≡ all_zero (drop first bytes.now) }
 {
-    let mut i = first;
-    while i < bytes.len() {
-        if bytes[i] != 0 {
-            return false;
-        }
-        i += 1;
-    }
-    true
+    bytes.iter().skip(first).all(|b| *b == 0)
 }
 
 // Whether the four flags are 0 or 1.
+#[tactic(auto, using(cells::proofs::Tests::tests), unfolding(crate::specs::Held::flags_fit))]
 fn flags_fit(bytes: &[u8]) -> bool
     ensures { result ≡ flags_fit bytes.now }
 {
-    if cells::byte_at(bytes, 0) >= 2 {
-        return false;
-    }
-    if cells::byte_at(bytes, 3) >= 2 {
-        return false;
-    }
-    if cells::byte_at(bytes, 6) >= 2 {
-        return false;
-    }
-    cells::byte_at(bytes, 8) < 2
+    cells::byte_at(bytes, 0) < 2
+        && cells::byte_at(bytes, 3) < 2
+        && cells::byte_at(bytes, 6) < 2
+        && cells::byte_at(bytes, 8) < 2
 }
 
 // Whether the selection is one, with a marker's cell only where a marker is selected.
+#[tactic(auto, using(cells::proofs::Tests::tests), unfolding(crate::specs::Held::selection_encoded))]
 fn selection_fits(bytes: &[u8]) -> bool
     ensures { result ≡ selection_encoded bytes.now }
 {
     let selection = cells::byte_at(bytes, 10);
-    selection < 3 && (selection == 2 || pair_at(bytes, 12) == 0)
+    selection < 3 && (selection == 2 || cells::pair_at(bytes, 12) == 0)
 }
 
 // Whether bytes encode a held state.
+#[tactic(auto, using(cells::proofs::Tests::tests), unfolding(crate::specs::Held::encodes))]
 fn encodes_held(bytes: &[u8]) -> bool
     ensures { result ≡ encodes bytes.now }
 {
-    if bytes.len() != HELD_BYTES {
-        return false;
-    }
-    if cells::byte_at(bytes, 11) != LAYOUT {
-        return false;
-    }
-    flags_fit(bytes) && (selection_fits(bytes) && zeros_from(bytes, 24))
+    bytes.len() == HELD_BYTES
+        && cells::byte_at(bytes, 11) == LAYOUT
+        && flags_fit(bytes)
+        && selection_fits(bytes)
+        && zeros_from(bytes, 24)
 }
 
+// The selection, by its number in document 01's layout.
+#[tactic(auto, using(cells::proofs::Tests::tests), unfolding(crate::specs::Held::selection_in))]
 fn selection_in(bytes: &[u8]) -> Option<Spot>
     ensures { result ≡ selection_in bytes.now }
 {
-    let selection = cells::byte_at(bytes, 10);
-    if selection == 0 {
-        return None;
+    match cells::byte_at(bytes, 10) {
+        0 => None,
+        1 => Some(Spot::R0),
+        _ => Some(Spot::Marker(cells::pair_at(bytes, 12))),
     }
-    if selection == 1 {
-        return Some(Spot::R0);
-    }
-    Some(Spot::Marker(pair_at(bytes, 12)))
 }
 
+#[tactic(auto, unfolding(crate::specs::Held::decoded))]
 fn position_in(bytes: &[u8]) -> Position
     ensures { result ≡ (decoded bytes.now).position }
 {
     Position {
-        cylinder: Cylinder(pair_at(bytes, 14)),
-        head: Head(pair_at(bytes, 16)),
-        place: pair_at(bytes, 18),
+        cylinder: Cylinder(cells::pair_at(bytes, 14)),
+        head: Head(cells::pair_at(bytes, 16)),
+        place: cells::pair_at(bytes, 18),
         sense: Sense {
             byte0: cells::byte_at(bytes, 4),
             byte1: cells::byte_at(bytes, 5),
@@ -202,6 +147,7 @@ fn position_in(bytes: &[u8]) -> Position
     }
 }
 
+#[tactic(auto, unfolding(crate::specs::Held::decoded))]
 fn orders_in(bytes: &[u8]) -> Orders
     ensures { result ≡ (decoded bytes.now).orders }
 {
@@ -215,17 +161,30 @@ fn orders_in(bytes: &[u8]) -> Orders
     }
 }
 
+// The next word's address.
+fn next_in(bytes: &[u8]) -> u32
+    ensures { result ≡ be32 bytes.now 20 }
+{
+    let top = cells::byte_at(bytes, 20);
+    let upper = cells::byte_at(bytes, 21);
+    let lower = cells::byte_at(bytes, 22);
+    let last = cells::byte_at(bytes, 23);
+    u32::from_be_bytes([top, upper, lower, last])
+}
+
+#[tactic(auto, unfolding(crate::specs::Held::decoded))]
 fn channel_in(bytes: &[u8]) -> Channel
     ensures { result ≡ (decoded bytes.now).channel }
 {
     Channel {
         going: set_at(bytes, 0),
         key: cells::byte_at(bytes, 1),
-        next: four_at(bytes, 20),
+        next: next_in(bytes),
         after_tic: set_at(bytes, 6),
     }
 }
 
+#[tactic(auto, unfolding(crate::specs::Held::decoded))]
 fn held_in(bytes: &[u8]) -> Held
     ensures { result ≡ decoded bytes.now }
 {
@@ -237,6 +196,7 @@ fn held_in(bytes: &[u8]) -> Held
 }
 
 // The held state that bytes encode, or that they encode none.
+#[tactic(auto, using(cells::proofs::Tests::tests), unfolding(crate::specs::Held::kept))]
 pub fn keep(bytes: &[u8]) -> Option<Held>
     ensures { result ≡ kept bytes.now }
 {
@@ -246,95 +206,48 @@ pub fn keep(bytes: &[u8]) -> Option<Held>
     None
 }
 
-fn bit_of(b: bool) -> u8
-    ensures { result ≡ bit b }
-{
-    if b { 1 } else { 0 }
-}
-
-fn high(n: u16) -> u8
-    ensures { result ≡ n / 256 }
-{
-    (n / 256) as u8
-}
-
-fn low(n: u16) -> u8
-    ensures { result ≡ n % 256 }
-{
-    (n % 256) as u8
-}
-
-fn selection_no(selection: Option<Spot>) -> u8
-    ensures { result ≡ selection_no selection }
+// A selection's number, and the selected marker's cell, 0 where no marker is selected.
+fn selection_parts(selection: Option<Spot>) -> (u8, u16)
+    ensures { result ≡ (selection_no selection, selection_cell selection) }
 {
     match selection {
-        None => 0,
-        Some(spot) => match spot {
-            Spot::R0 => 1,
-            Spot::Marker(_) => 2,
-        },
+        None => (0, 0),
+        Some(Spot::R0) => (1, 0),
+        Some(Spot::Marker(p)) => (2, p),
     }
 }
 
-// The selected marker's cell, 0 where no marker is selected.
-fn selection_cell(selection: Option<Spot>) -> u16
-    ensures { result ≡ selection_cell selection }
+// Bytes 0 to 23: an array, since there is no heap.
+fn first_bytes(h: Held) -> [u8; 24]
+    ensures { result ≡ part (encoded h) 0 24 }
 {
-    match selection {
-        None => 0,
-        Some(spot) => match spot {
-            Spot::R0 => 0,
-            Spot::Marker(p) => p,
-        },
-    }
-}
-
-// Bytes 0 to 11.
-fn first_bytes(h: Held) -> [u8; 12]
-    ensures { result ≡ part (encoded h) 0 12 }
-{
-    let orders = h.orders;
-    let selection = orders.selection;
+    let (selection, cell) = selection_parts(h.orders.selection);
+    let [cell_high, cell_low] = cell.to_be_bytes();
+    let [cylinder_high, cylinder_low] = h.position.cylinder.0.to_be_bytes();
+    let [head_high, head_low] = h.position.head.0.to_be_bytes();
+    let [place_high, place_low] = h.position.place.to_be_bytes();
+    let [top, upper, lower, last] = h.channel.next.to_be_bytes();
     [
-        bit_of(h.channel.going),
+        u8::from(h.channel.going),
         h.channel.key,
         h.orders.mask,
-        bit_of(h.orders.mask_set),
+        u8::from(h.orders.mask_set),
         h.position.sense.byte0,
         h.position.sense.byte1,
-        bit_of(h.channel.after_tic),
+        u8::from(h.channel.after_tic),
         h.orders.before,
-        bit_of(h.orders.whole),
+        u8::from(h.orders.whole),
         h.orders.tally,
-        selection_no(selection),
-        1,
-    ]
-}
-
-// Bytes 12 to 23.
-fn second_bytes(h: Held) -> [u8; 12]
-    ensures { result ≡ part (encoded h) 12 12 }
-{
-    let orders = h.orders;
-    let selection = orders.selection;
-    let cell = selection_cell(selection);
-    let cylinder = h.position.cylinder.0;
-    let head = h.position.head.0;
-    let place = h.position.place;
-    let next = h.channel.next;
-    let top = (next / 16777216) as u8;
-    let upper = (next / 65536 % 256) as u8;
-    let lower = (next / 256 % 256) as u8;
-    let last = (next % 256) as u8;
-    [
-        high(cell),
-        low(cell),
-        high(cylinder),
-        low(cylinder),
-        high(head),
-        low(head),
-        high(place),
-        low(place),
+        selection,
+        LAYOUT,
+        cell_high,
+        cell_low,
+        cylinder_high,
+        cylinder_low,
+        head_high,
+        head_low,
+        place_high,
+        place_low,
         top,
         upper,
         lower,
@@ -342,19 +255,8 @@ fn second_bytes(h: Held) -> [u8; 12]
     ]
 }
 
-// So many bytes stored from an index on: those that are there, then zeros.
-fn store(held: &mut [u8], first: usize, bytes: &[u8], n: usize)
-    requires { first + n ≤ length held.old }
-    ensures { held.new ≡ overlay held.old first (padded n bytes.now) }
-{
-    let mut j = 0;
-    while j < n {
-        held[first + j] = cells::byte_at(bytes, j);
-        j += 1;
-    }
-}
-
-// The bytes of a held state stored, if there is room for just these.
+// The bytes of a held state stored, if there is room for just these. Whether they were is one test of the model, which C hears as 1 or 0: an Err would have no
+// more to say.
 pub fn put(held: &mut [u8], h: Held) -> bool
     ensures { (result ≡ eqb (length held.old) held_bytes)
         × (held.new ≡ pick (eqb (length held.old) held_bytes) (encoded h) held.old) }
@@ -362,9 +264,8 @@ pub fn put(held: &mut [u8], h: Held) -> bool
     if held.len() != HELD_BYTES {
         return false;
     }
-    let first = first_bytes(h);
-    let second = second_bytes(h);
-    store(held, 0, &first, 12);
-    store(held, 12, &second, 52);
+    let (first, rest) = held.split_at_mut(24);
+    first.copy_from_slice(&first_bytes(h));
+    rest.fill(0);
     true
 }

@@ -1,21 +1,17 @@
 -- Laws of the pack: a track of it lies inside its cells, and a track that is lent on comes back in its place, every other cell as it was.
 use Prim.Native.Nat.{ℕ, suc, ◌+◌, ◌-◌, ◌*◌, ◌<◌, ◌≤◌}
-use mathlib.Core.Path.{◌≡◌, sym, ap, ap₂, ◌∙◌}
-use mathlib.Core.Bool.{Bool, true, false}
+use mathlib.Core.Path.{◌≡◌, ap, ◌∙◌}
 use mathlib.Core.List.{List, ◌++◌, append_assoc}
 use mathlib.Core.Logic.{◌⊎◌, ⊎_elim}
 use native.Mathlib.Nat.{mul-le-mul, suc-mul, mul-le-mul_right}
 use native.Mathlib.Omega.{arith}
 use lib.ListN.{length, take, drop, get_or}
 use lib.Seq.{drop-drop}
-use lib.Dec.{eqb, leb}
-use borrow.Author.Tests.{leb-true}
 use borrow.Rule.Slice.PartMut.{put_mid}
-use Rattle.cells.specs.Cells.{both, part, overlay, track_cells}
-use Rattle.cells.proofs.Tests.{second_of}
+use Rattle.cells.specs.Cells.{part, overlay, track_cells}
 use Rattle.cells.proofs.Laws.{length_part, overlay_before, overlay-behind}
 use Rattle.pack.specs.declared.{Cylinder.Cylinder, Head.Head, Shape.Shape}
-use Rattle.pack.specs.Pack.{most_cylinders, most_heads, from1_to, pack_fits, WholePack, OnPack, track_no, start_of, track_at, with_track}
+use Rattle.pack.specs.Pack.{most_cylinders, most_heads, WholePack, OnPack, track_no, start_of, track_at, with_track}
 
 -- ---- where a track lies
 
@@ -69,24 +65,3 @@ pub others_kept : (cells t : List ℕ) (a i : ℕ) → length t ≡ track_cells 
 unfolding with_track
 others_kept cells t a i l h o =
     ⊎_elim (λ k. overlay_before cells a t i (omega arith) k) (λ k. overlay-behind cells a t i (omega arith) (omega arith)) o
-
--- ---- a right shape
-
-pub up_to : (most n : ℕ) (b : Bool) → b ≡ true → b ≡ from1_to most n → n ≤ most
-up_to most n b t e = leb-true n most (second_of (leb 1 n) (leb n most) (sym e ∙ t))
-
-module _ (g : Shape) (n : ℕ) (b : Bool) (e : b ≡ from1_to most_cylinders g.cylinders) where
-  pub bad_cylinders : b ≡ false → false ≡ pack_fits g n
-  unfolding pack_fits
-  bad_cylinders f = ap (λ (x : Bool). both x (both (from1_to most_heads g.heads) (eqb n (g.cylinders * g.heads * track_cells)))) (sym f ∙ e)
-
-  module _ (t : b ≡ true) (b' : Bool) (e' : b' ≡ from1_to most_heads g.heads) where
-    so_far : pack_fits g n ≡ both b' (eqb n (g.cylinders * g.heads * track_cells))
-    unfolding pack_fits
-    so_far = ap₂ (λ (x y : Bool). both x (both y (eqb n (g.cylinders * g.heads * track_cells)))) (sym e ∙ t) (sym e')
-
-    pub bad_heads : b' ≡ false → false ≡ pack_fits g n
-    bad_heads f = sym (so_far ∙ ap (λ (x : Bool). both x (eqb n (g.cylinders * g.heads * track_cells))) f)
-
-    pub by_count : b' ≡ true → (m : ℕ) → m ≡ g.cylinders * g.heads * track_cells → eqb n m ≡ pack_fits g n
-    by_count f m q = ap (eqb n) q ∙ sym (so_far ∙ ap (λ (x : Bool). both x (eqb n (g.cylinders * g.heads * track_cells))) f)

@@ -1,17 +1,13 @@
--- Laws of room left: it is 4,096 less first and needed cells together, so it fits 64 bits wherever the record begins, and is not
--- negative exactly where the record ends on the track.
-use Prim.Native.Nat.{ℕ, zero, suc, ◌+◌, ◌-◌, ◌<◌, ◌≤◌, ◌^◌}
-use mathlib.Core.Path.{◌≡◌, refl, sym, ap, ap₂, ◌∙◌, subst}
+-- Laws of room left: it is 4,096 less first and needed cells together, and is not negative exactly where the record ends on the track.
+use Prim.Native.Nat.{ℕ, zero, suc, ◌+◌, ◌-◌, ◌<◌, ◌≤◌}
+use mathlib.Core.Path.{◌≡◌, refl, sym, ap, ◌∙◌}
 use mathlib.Core.Bool.{Bool, true, false}
 use native.Mathlib.Nat.{add-zero, sub-zero}
 use native.Mathlib.Omega.{arith}
 use lib.IntN.{ℤ, pos, sub_ℕ, ◌+ℤ◌, ◌-ℤ◌, neg_ℤ, +ℤ_assoc, neg_ℤ-+ℤ, pos-+ℤ-pos}
-use lib.Signed.{mag, le_z}
+use lib.Signed.{le_z}
 use lib.Dec.{ltb, leb}
 use borrow.Author.Tests.{ltb-true, ltb-false, le-ltb, le-leb, lt-leb, leb-true}
-use mir.Syntax.{w64}
-use mir.Val.{SFits, to_z, of_z}
-use mir.ValLaws.{to_z_pos, to_z-of_z}
 use Rattle.cells.specs.Cells.{track_cells}
 use Rattle.room.specs.Room.{room_left, fits}
 
@@ -28,16 +24,6 @@ pub room_is : (first needs : ℕ) → room_left first needs ≡ sub_ℕ track_ce
 unfolding room_left
 room_is first needs = twice (pos track_cells) first needs ∙ minus track_cells (first + needs)
 
-mag_sub : (a b : ℕ) → mag (sub_ℕ a b) ≤ a + b
-mag_sub a b = go (ltb a b) refl
-  where
-    go : (t : Bool) → ltb a b ≡ t → mag (sub_ℕ a b) ≤ a + b
-    go true e = rw e (omega arith)
-    go false e = rw e (omega arith)
-
-sub-fits : (a b : ℕ) → a + b < 2 ^ 63 → SFits w64 (sub_ℕ a b)
-sub-fits a b h = record { sfits = omega (arith, mag_sub a b) }
-
 pub sub_sign : (a b : ℕ) → le_z (pos 0) (sub_ℕ a b) ≡ leb b a
 sub_sign a b = go (ltb a b) refl
   where
@@ -49,31 +35,6 @@ sub_sign a b = go (ltb a b) refl
 pub fits_is : (first needs : ℕ) → fits first needs ≡ leb (first + needs) track_cells
 unfolding fits
 fits_is first needs = ap (le_z (pos 0)) (room_is first needs) ∙ sub_sign track_cells (first + needs)
-
--- ---- as the code has it
-
--- the first difference
-module _ (f : ℕ) (hf : f < 2 ^ 32) where
-  first_is : pos 4096 -ℤ to_z w64 f ≡ sub_ℕ 4096 f
-  first_is = ap (λ (z : ℤ). pos 4096 -ℤ z) (to_z_pos w64 f (omega arith)) ∙ minus 4096 f
-
-  pub first_fits : SFits w64 (pos 4096 -ℤ to_z w64 f)
-  first_fits = subst (SFits w64) (sym first_is) (sub-fits 4096 f (omega arith))
-
-  first_back : to_z w64 (of_z w64 (pos 4096 -ℤ to_z w64 f)) ≡ pos 4096 -ℤ pos f
-  first_back = to_z-of_z w64 _ first_fits ∙ ap (λ (z : ℤ). pos 4096 -ℤ z) (to_z_pos w64 f (omega arith))
-
-  -- and the second
-  module _ (n : ℕ) (hn : n < 2 ^ 32) where
-    both_are : to_z w64 (of_z w64 (pos 4096 -ℤ to_z w64 f)) -ℤ to_z w64 n ≡ room_left f n
-    unfolding room_left
-    both_are = ap₂ (λ (x y : ℤ). x -ℤ y) first_back (to_z_pos w64 n (omega arith))
-
-    pub both_fit : SFits w64 (to_z w64 (of_z w64 (pos 4096 -ℤ to_z w64 f)) -ℤ to_z w64 n)
-    both_fit = subst (SFits w64) (sym (both_are ∙ room_is f n)) (sub-fits 4096 (f + n) (omega arith))
-
-    pub room_back : to_z w64 (of_z w64 (to_z w64 (of_z w64 (pos 4096 -ℤ to_z w64 f)) -ℤ to_z w64 n)) ≡ room_left f n
-    room_back = to_z-of_z w64 _ both_fit ∙ both_are
 
 -- where a record would end past the track there is no room, however far past
 pub no_room : (first needs : ℕ) → track_cells < first + needs → fits first needs ≡ false

@@ -2,11 +2,11 @@
 #![tactic(auto)]
 
 ghost use Rattle.std.specs.Prelude.{◌≡◌, List, ℕ, ◌+◌, length};
-ghost use Rattle.cells.specs.Cells.{be16, be24};
+ghost use Rattle.cells.specs.Cells.{be24};
 ghost use Rattle.words.specs.Words.{along, begun_by, word_at, tested_command, tested_word, tested, Storable, stored, status_for, channel_for, program_check};
 
 // Addresses are taken modulo 2 to the 24.
-const ADDRESSES: u64 = 16777216;
+const ADDRESSES: u32 = 16777216;
 // The address word, and its byte with the key.
 const ADDRESS_WORD: u32 = 72;
 
@@ -52,7 +52,7 @@ pub enum Cause {
     Area,
 }
 
-// What a word says that passes its tests: a command to obey, or a TIC to an address.
+// What a word says that passes its tests: a command to obey, or a TIC to an address. Neither is a refusal, so it is no Result.
 #[derive(Clone, Copy)]
 pub enum Directive {
     Obey(Word),
@@ -73,8 +73,7 @@ pub struct Status {
 pub fn advanced(at: u32, by: u32) -> u32
     ensures { result ≡ along at by }
 {
-    let sum = at as u64 + by as u64;
-    (sum % ADDRESSES) as u32
+    at.wrapping_add(by) % ADDRESSES
 }
 
 // The three bytes after a word's first: its address.
@@ -85,20 +84,11 @@ fn word_address(storage: &[u8], at: u32) -> u32
     let high = cells::byte_at(storage, i);
     let middle = cells::byte_at(storage, i + 1);
     let low = cells::byte_at(storage, i + 2);
-    cells::triple(high, middle, low)
-}
-
-// The last two bytes of a command word: its count.
-fn word_count(storage: &[u8], at: u32) -> u16
-    ensures { result ≡ be16 storage.now (at + 6) }
-{
-    let i = at as usize + COUNT;
-    let high = cells::byte_at(storage, i);
-    let low = cells::byte_at(storage, i + 1);
-    cells::pair(high, low)
+    u32::from_be_bytes([0, high, middle, low])
 }
 
 // The address word, at 72: a chain's key and its first word's address, if it is good.
+#[tactic(auto, using(cells::proofs::Tests::tests), unfolding(crate::specs::Words::begun_by))]
 pub fn address_word(storage: &[u8]) -> Option<(u8, u32)>
     ensures { result ≡ begun_by storage.now }
 {
@@ -110,6 +100,7 @@ pub fn address_word(storage: &[u8]) -> Option<(u8, u32)>
 }
 
 // The command word at an address, as it stands there.
+#[tactic(auto, unfolding(crate::specs::Words::word_at))]
 pub fn word_at(storage: &[u8], at: u32) -> Word
     ensures { result ≡ word_at storage.now at }
 {
@@ -118,11 +109,12 @@ pub fn word_at(storage: &[u8], at: u32) -> Word
         code: cells::byte_at(storage, i),
         address: word_address(storage, at),
         flags: cells::byte_at(storage, i + FLAGS),
-        count: word_count(storage, at),
+        count: cells::pair_at(storage, i + COUNT),
     }
 }
 
 // The tests of a word that is no TIC, in storage of so many bytes.
+#[tactic(auto, using(cells::proofs::Tests::tests), unfolding(crate::specs::Words::tested_command))]
 fn test_command(bytes: usize, w: Word) -> Result<Directive, Cause>
     ensures { (s : List ℕ) → length s ≡ bytes → result ≡ tested_command s w }
 {
@@ -138,13 +130,14 @@ fn test_command(bytes: usize, w: Word) -> Result<Directive, Cause>
     if w.code % DIGIT == 0 {
         return Err(Cause::Code);
     }
-    if bytes < w.address as usize + w.count as usize {
+    if bytes < w.address as usize + usize::from(w.count) {
         return Err(Cause::Area);
     }
     Ok(Directive::Obey(w))
 }
 
-// The tests of a word after a TIC or not.
+// The tests of a word after a TIC or not. A word's code stays a number, as Word of the model has it: which codes are commands a crate above says, `table`.
+#[tactic(auto, using(cells::proofs::Tests::tests), unfolding(crate::specs::Words::tested_word))]
 fn test_word(bytes: usize, after_tic: bool, w: Word) -> Result<Directive, Cause>
     ensures { (s : List ℕ) → length s ≡ bytes → result ≡ tested_word s after_tic w }
 {
@@ -158,6 +151,7 @@ fn test_word(bytes: usize, after_tic: bool, w: Word) -> Result<Directive, Cause>
 }
 
 // The tests of the word at an address of storage: program checks in their order.
+#[tactic(auto, using(cells::proofs::Tests::tests), unfolding(crate::specs::Words::tested))]
 pub fn test(storage: &[u8], at: u32, after_tic: bool) -> Result<Directive, Cause>
     ensures { result ≡ tested storage.now at after_tic }
 {
@@ -171,6 +165,7 @@ pub fn test(storage: &[u8], at: u32, after_tic: bool) -> Result<Directive, Cause
 }
 
 // A status word, for the command word at an address.
+#[tactic(auto, unfolding(crate::specs::Words::status_for))]
 pub fn status_for(key: u8, at: u32, unit: u8, channel: u8, left: u16) -> Status
     ensures { result ≡ status_for key at unit channel left }
 {
@@ -183,7 +178,8 @@ pub fn status_for(key: u8, at: u32, unit: u8, channel: u8, left: u16) -> Status
     }
 }
 
-// The channel status of a program check.
+// The channel status of a program check: document 01's table, a cause a line as the model has it, though all lines say the same today.
+#[tactic(auto, unfolding(crate::specs::Words::channel_for))]
 fn channel_for(cause: Cause) -> u8
     ensures { result ≡ channel_for cause }
 {
@@ -198,23 +194,28 @@ fn channel_for(cause: Cause) -> u8
 }
 
 // The status word of a program check in the word at an address.
+#[tactic(auto, unfolding(crate::specs::Words::program_check))]
 pub fn program_check(key: u8, at: u32, cause: Cause) -> Status
     ensures { result ≡ program_check key at cause }
 {
     status_for(key, at, 0x00, channel_for(cause), 0)
 }
 
-// The status word stored, at 64.
+// The status word stored, at 64. The key is half a byte, for which the library has no conversion.
 pub fn store_status(storage: &mut [u8], x: Status)
     requires { Storable storage.old x }
     ensures { storage.new ≡ stored storage.old x }
 {
-    storage[64] = x.key * DIGIT;
-    storage[65] = (x.address / 65536) as u8;
-    storage[66] = (x.address / 256 % 256) as u8;
-    storage[67] = (x.address % 256) as u8;
-    storage[68] = x.unit;
-    storage[69] = x.channel;
-    storage[70] = (x.left / 256) as u8;
-    storage[71] = (x.left % 256) as u8;
+    let [_, high, middle, low] = x.address.to_be_bytes();
+    let [left_high, left_low] = x.left.to_be_bytes();
+    storage[64..72].copy_from_slice(&[
+        x.key * DIGIT,
+        high,
+        middle,
+        low,
+        x.unit,
+        x.channel,
+        left_high,
+        left_low,
+    ]);
 }

@@ -1,16 +1,16 @@
--- The invariant: what is asked of the bytes from the first on is asked of those from the one in hand on.
-use mathlib.Core.Path.{refl, sym, ◌∙◌}
-use Rattle.held.proofs.Laws.{zero_seen, other_seen, all_seen}
+-- The library's test of all bytes from there on is the model's.
+use Rattle.std.proofs.Common.{rules, sym, ◌∙◌}
+use Rattle.std.proofs.lemmas.Iterator.{YieldsList-from_slice}
+use Rattle.std.proofs.lemmas.Iterator.Adapters.{YieldsList-from_skip}
+use Rattle.std.proofs.lemmas.Iterator.Search.{all_from_yields_List}
+use borrow.Author.Tests.{tests}
+use lib.Dec.{eqb}
+use lib.ListN.{drop}
+use Rattle.held.proofs.Laws.{zeros_are}
 use Rattle.held.proofs.zeros_from.Goals as goal
 
-pub loop-i-init : goal.loop-i-init
-loop-i-init c = refl
-
-pub returns-then-bytes-i-ne0 : goal.returns-then-bytes-i-ne0
-returns-then-bytes-i-ne0 c = sym (c.loop-i.invariant ∙ other_seen _ _ c.loop-i-test.true c.if-bytes-i-ne0.true)
-
-pub loop-i-preserved : goal.loop-i-preserved
-loop-i-preserved c = c.loop-i.invariant ∙ zero_seen _ _ c.loop-i-test.true c.if-bytes-i-ne0.false
-
 pub returns : goal.returns
-returns c = sym (c.loop-i.invariant ∙ all_seen _ _ c.loop-i-test.false)
+returns c =
+    all_from_yields_List (λ b. eqb b 0) _ _ _ c.all.ensures.ran (YieldsList-from_skip c.args.first (YieldsList-from_slice c.args.bytes.now (cc)) (cc))
+    (λ x b q k. search (rules, tests))
+    ∙ sym (zeros_are (drop c.args.first c.args.bytes.now))
