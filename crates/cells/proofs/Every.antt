@@ -6,6 +6,7 @@ use Prim.Native.Nat.{ℕ, suc, ◌+◌, ◌<◌, ◌≤◌}
 use native.Mathlib.Numerals.{add-one}
 use lib.ListN.{length, drop, get_or, drop_of_length-le}
 use lib.Seq.{drop-cons}
+use Rattle.std.specs.List.{fold}
 use Rattle.cells.specs.Cells.{both}
 use Rattle.cells.proofs.Marks.{both_never}
 
@@ -35,3 +36,10 @@ module _ (f : ℕ → Bool) (every : List ℕ → Bool) (E : Every f every) (l :
 pub every_end : (f : ℕ → Bool) (every : List ℕ → Bool) → Every f every → (l : List ℕ) (i : ℕ) (b : Bool) → length l ≤ i → both b (every (drop i l)) ≡ b
 every_end f every E l i true h = ap every (drop_of_length-le l h) ∙ E.none
 every_end f every E l i false h = refl
+
+-- the same of a fold that takes the test of each element to the answer so far
+pub every_fold : (f : ℕ → Bool) (every : List ℕ → Bool) → Every f every → (l : List ℕ) (b : Bool) → fold (λ b x. both b (f x)) b l ≡ both b (every l)
+every_fold f every E [] true = sym E.none
+every_fold f every E [] false = refl
+every_fold f every E (x ∷ l) true = every_fold f every E l (f x) ∙ sym (E.more x l)
+every_fold f every E (x ∷ l) false = every_fold f every E l false

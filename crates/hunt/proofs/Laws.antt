@@ -1,7 +1,7 @@
 -- Laws of the hunt: one cell on, none left, and that cells before 7 and cells without a marker make no difference.
 use Prim.Native.Nat.{ℕ, zero, suc, ◌+◌, ◌-◌, ◌<◌, ◌≤◌, max}
-use mathlib.Core.Path.{◌≡◌, sym, ap, ◌∙◌}
-use mathlib.Core.Bool.{Bool, true, false, not}
+use mathlib.Core.Path.{◌≡◌, refl, sym, ap, ◌∙◌}
+use mathlib.Core.Bool.{Bool, true, false, not, cond}
 use mathlib.Core.List.{List}
 use native.Mathlib.Numerals.{add-one}
 use native.Mathlib.Nat.{zero-add}
@@ -16,6 +16,7 @@ use Rattle.cells.proofs.Marks.{length-marks, get_or-marks, mark_here, mark_none,
 use Rattle.cells.proofs.Tests.{first_of, second_of}
 use Rattle.hunt.specs.declared.Spot.TheVariants.{R0, Marker}
 use Rattle.hunt.specs.Hunt.{markerless, scan, hunt, past_index, ahead_or, next_record, next_id, spaced_to, space_record}
+use Rattle.std.specs.List.{find, range_with_len}
 use Rattle.std.specs.Prelude.{Some, None, Option}
 use Rattle.hunt.specs.declared.{Spot.Spot}
 
@@ -27,12 +28,6 @@ module _ (t : List ℕ) (p : ℕ) where
       let k : p < length (marks t) = omega (arith, length-marks t) in
       ap (λ (m : List Bool). scan m p) (drop-cons (marks t) p false k)
       ∙ ap (λ (x : Bool). pick x (Some p) (scan (drop (suc p) (marks t)) (suc p))) (get_or-marks t p ∙ e)
-
-  pub hunt_here : p < length t → 7 ≤ p → get_or t p 0 ≡ 512 → hunt (marks t) p ≡ Some p
-  hunt_here h k e = hunt_by true (mark_here t p k e) h
-
-  pub hunt_on : p < length t → (get_or t p 0 ≡ 512 → ⊥) → hunt (marks t) p ≡ hunt (marks t) (p + 1)
-  hunt_on h e = hunt_by false (mark_none t p e) h ∙ ap (hunt (marks t)) (sym (add-one p))
 
   pub hunt_end : length t ≤ p → hunt (marks t) p ≡ None
   unfolding hunt scan
@@ -55,6 +50,22 @@ hunt_first t p h = go (dec_lt p 7)
     go (yes k) = up t (7 - p) p (omega arith) h ∙ ap (hunt (marks t)) (omega arith)
     go (no k) = ap (hunt (marks t)) (omega arith)
 
+-- from cell 7 on it comes to the first of the cells that holds 512
+mark_is : (t : List ℕ) (p : ℕ) → 7 ≤ p → mark_at t p ≡ eqb (get_or t p 0) 512
+unfolding mark_at
+mark_is t p h = ap (λ (b : Bool). both b (eqb (get_or t p 0) 512)) (le-leb 7 p h)
+
+cond-pick : {A : Type 0} (b : Bool) (x y : A) → cond b x y ≡ pick b x y
+cond-pick true x y = refl
+cond-pick false x y = refl
+
+pub hunt_find : (t : List ℕ) (n p : ℕ) → n ≡ length t - p → 7 ≤ p → find (λ i. eqb (get_or t i 0) 512) (range_with_len p n) ≡ hunt (marks t) p
+hunt_find t zero p e h = sym (hunt_end t p (omega arith))
+hunt_find t (suc n) p e h =
+    let b = eqb (get_or t p 0) 512 in
+    ap (cond b (Some p)) (hunt_find t n (p + 1) (omega arith) (omega arith) ∙ ap (hunt (marks t)) (add-one p))
+    ∙ cond-pick b (Some p) (hunt (marks t) (suc p)) ∙ sym (hunt_by t p b (mark_is t p h) (omega arith))
+
 -- ---- cells without a marker
 
 -- n such cells make no difference
@@ -71,14 +82,6 @@ over t (suc n) p q b e h =
 -- a hunt from p may begin at q, if the cells between are such
 pub hunt_bare : (t : List ℕ) (p q : ℕ) (f : Option ℕ) → hunt (marks t) p ≡ f → p ≤ q → q ≤ length t → markerless (take (q - p) (drop p t)) ≡ true → hunt (marks t) q ≡ f
 hunt_bare t p q f e h k b = sym (over t (q - p) p q b (omega arith) k) ∙ e
-
--- is a marker here: below 7 none, off the track none
-pub mark_off : (t : List ℕ) (p : ℕ) → length t ≤ p → mark_at t p ≡ false
-mark_off t p h = mark_none t p (λ e. omega (arith, get_or-eq_default t 0 h))
-
-pub mark_is : (t : List ℕ) (p : ℕ) → 7 ≤ p → eqb (get_or t p 0) 512 ≡ mark_at t p
-unfolding mark_at
-mark_is t p h = ap (λ (b : Bool). both b (eqb (get_or t p 0) 512)) (sym (le-leb 7 p h))
 
 -- ---- the next record, by what the hunt finds
 

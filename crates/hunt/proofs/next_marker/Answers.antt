@@ -1,27 +1,20 @@
--- `hunt::next_marker` meets its contract: the hunt from the place is the hunt from the cell that the strides end at.
--- The invariant: it is the hunt from the cell in hand.
-use mathlib.Core.Path.{sym, ap, ◌∙◌}
-use native.Mathlib.Omega.{arith}
-use Rattle.cells.specs.Cells.{marks}
+-- `hunt::next_marker` meets its contract: the hunt from the place is the hunt from the cell that the strides end at, which comes to the first
+-- cell from there on that holds a marker.
+use Rattle.std.proofs.Common.{rules, tests, sym, ap, refl, ◌∙◌, ◌-◌, eqb, get_or, arith}
+use Rattle.std.proofs.lemmas.Iterator.{YieldsList-from_range}
+use Rattle.std.proofs.lemmas.Iterator.Adapters.{option_map_id}
+use Rattle.std.proofs.lemmas.Iterator.Search.{find_from_yields_List}
+use Rattle.cells.specs.Cells.{track_cells, marks, marker}
 use Rattle.hunt.specs.Hunt.{hunt}
-use Rattle.hunt.proofs.Laws.{hunt_first, hunt_here, hunt_on, hunt_end}
+use Rattle.hunt.proofs.Laws.{hunt_first, hunt_find}
 use Rattle.hunt.proofs.next_marker.Goals as goal
 
-pub loop-i-init : goal.loop-i-init
-loop-i-init c =
-    let x = c.args in
-    let first = ap (hunt (marks x.track.now)) (sym c.from_first.ensures) in
-    (omega arith, hunt_first x.track.now x.place (omega arith) ∙ first ∙ sym c.pass_over-i.ensures.1)
-
-pub returns-then-track-i-eq-MARKER : goal.returns-then-track-i-eq-MARKER
-returns-then-track-i-eq-MARKER c =
-    let l = c.loop-i in
-    sym (l.invariant.1 ∙ hunt_here _ _ (omega arith) l.invariant.0 c.if-track-i-eq-MARKER.true)
-
-pub loop-i-preserved : goal.loop-i-preserved
-loop-i-preserved c =
-    let l = c.loop-i in
-    (omega arith, l.invariant.1 ∙ hunt_on _ _ (omega arith) c.if-track-i-eq-MARKER.false)
-
 pub returns : goal.returns
-returns c = sym (c.loop-i.invariant.1 ∙ hunt_end _ _ (omega arith))
+returns c =
+    let t = c.args.track.now in
+    let from = c.pass_over-from.result in
+    let first = ap (hunt (marks t)) (sym c.max.ensures) in
+    let ahead = hunt_first t c.args.place (omega arith) ∙ first ∙ sym c.pass_over-from.ensures.1 in
+    sym (option_map_id c.find.result)
+    ∙ find_from_yields_List (λ i. eqb (get_or t i 0) marker) _ _ _ c.find.ensures.ran (YieldsList-from_range from track_cells _ refl refl) (λ x b q k. search (rules, tests))
+    ∙ hunt_find t (track_cells - from) from (omega arith) (omega arith) ∙ sym ahead
