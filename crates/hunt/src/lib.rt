@@ -1,7 +1,7 @@
 // The hunt for the next record on a track, by its markers.
 #![tactic(auto)]
 
-ghost use Rattle.std.specs.Prelude.{◌≡◌, max, ◌≤◌};
+ghost use Rattle.std.specs.Prelude.{true, ◌≡◌, max, ◌≤◌, length, take};
 ghost use Rattle.cells.specs.Cells.{first_marker, marks, mark_at};
 ghost use Rattle.hunt.specs.Hunt.{markerless, hunt, count_first, next_record, next_id, space_record};
 
@@ -10,7 +10,7 @@ use cells::Track;
 // The first cell of R0.
 const R0_FIRST: u32 = cells::FIRST_MARKER as u32;
 // So many cells are passed over at once where none of them holds a marker.
-const STRIDE: u16 = 16;
+const STRIDE: usize = 16;
 
 // A record: R0, or the one whose marker is in a cell.
 #[derive(Clone, Copy)]
@@ -31,30 +31,29 @@ pub fn is_marker(track: &[u16], at: u16) -> bool
 fn is_bare(cells: &[u16]) -> bool
     ensures { result ≡ markerless cells.now }
 {
-    cells.iter().fold(true, |bare, cell| bare & (*cell != cells::MARKER))
+    cells
+        .iter()
+        .fold(true, |bare, cell| bare & (*cell != cells::MARKER))
 }
 
-// The cell that a hunt may begin at instead: strides without a marker are passed over, since markers are few.
-fn pass_over(track: &Track, from: u16) -> u16
-    ensures { (from ≤ result) × (hunt (marks track.now) result ≡ hunt (marks track.now) from) }
+// How many cells a hunt may pass over: strides in which no cell holds a marker, since markers are few.
+fn pass_over(cells: &[u16]) -> usize
+    ensures within { result ≤ length cells.now }
+    ensures bare { markerless (take result cells.now) ≡ true }
 {
-    let mut i = from;
-    while i < cells::TRACK_END - STRIDE {
-        let at = i as usize;
-        if !is_bare(&track[at..at + STRIDE as usize]) {
-            return i;
-        }
-        i += STRIDE;
-    }
-    i
+    let bare = cells
+        .chunks_exact(STRIDE)
+        .take_while(|stride| is_bare(stride));
+    bare.count() * STRIDE
 }
 
 // The first marker at or after a place.
 pub fn next_marker(track: &Track, place: u16) -> Option<u16>
     ensures { result ≡ hunt (marks track.now) place }
 {
-    let from = pass_over(track, place.max(cells::FIRST_MARKER));
-    (from..cells::TRACK_END).find(|i| track[usize::from(*i)] == cells::MARKER)
+    let from = place.max(cells::FIRST_MARKER);
+    let on = from + pass_over(track.get(usize::from(from)..)?) as u16;
+    (on..cells::TRACK_END).find(|i| track[usize::from(*i)] == cells::MARKER)
 }
 
 // The next record: the first marker at or after the place, else past the index.
@@ -74,7 +73,8 @@ pub fn next_id(track: &Track, place: u16) -> Option<(Spot, u8)>
     if place < cells::FIRST_MARKER {
         return Some((Spot::R0, 0));
     }
-    Some(next_marker(track, place).map_or((Spot::R0, 1), |p| (Spot::Marker(p), 0)))
+    let ahead = next_marker(track, place).map(|p| (Spot::Marker(p), 0));
+    ahead.or(Some((Spot::R0, 1)))
 }
 
 // The first cell of a record's count area.
