@@ -12,7 +12,7 @@ const R0_FIRST: u32 = cells::FIRST_MARKER as u32;
 // So many cells are passed over at once where none of them holds a marker.
 const STRIDE: usize = 16;
 
-// A record: R0, or the one whose marker is in a cell.
+// A record: R0, or the one whose marker is in a cell. R0 is a record too, so that an Option would say less.
 #[derive(Clone, Copy)]
 pub enum Spot {
     R0,
@@ -47,7 +47,7 @@ fn pass_over(cells: &[u16]) -> usize
     bare.count() * STRIDE
 }
 
-// The first marker at or after a place.
+// The first marker at or after a place. A track has no more cells than a u16 counts: try_from in place of the cast would have an error that cannot come.
 pub fn next_marker(track: &Track, place: u16) -> Option<u16>
     ensures { result ≡ hunt (marks track.now) place }
 {

@@ -1,10 +1,9 @@
 -- What the code's looks come to, in the model's words.
-use Rattle.std.proofs.Common.{ℕ, ◌≡◌, ◌≤◌, List, length, Option, Some, None, Err, eqb, true, refl, sym, ap, ◌∙◌, arith}
+use Rattle.std.proofs.Common.{ℕ, ◌≡◌, ◌≤◌, List, length, Option, Some, None, Err, eqb, Bool, true, refl, sym, ap, ◌∙◌, arith}
 use lib.Dec.{leb}
 use Rattle.std.specs.Option.{unwrap_or}
 use borrow.Author.Tests.{le-leb, eq-eqb, ne_eqb}
-use Rattle.cells.specs.Cells.{pick, either, marks, track_cells}
-use Rattle.cells.proofs.Tests.{both_of}
+use Rattle.cells.specs.Cells.{pick, both, either, marks, track_cells}
 use Rattle.hunt.specs.Hunt.{hunt}
 use Rattle.areas.specs.declared.{Part.Part}
 use Rattle.areas.specs.declared.Part.TheVariants.{Home, Count, Key, Data}
@@ -30,6 +29,10 @@ pub no_track : (t : List ℕ) (place : ℕ) → (length t ≡ track_cells → �
 unfolding marker_call marked marked_no
 no_track t place h = ap (λ b. marked_no (pick b (marked_by (hunt (marks t) place)) None)) (ne_eqb (length t) track_cells h)
 
+-- of two tests one is known
+both_is : {a : Bool} (b : Bool) → a ≡ true → both a b ≡ b
+both_is b e = ap (λ a. both a b) e
+
 -- a part that has a number is the part of that number
 
 numbered : (part : Part) → part_of (part_no part) ≡ part
@@ -46,12 +49,15 @@ highest Key = omega arith
 highest Data = omega arith
 
 pub look_told : (t l : List ℕ) (c p : ℕ) (part : Part) (x : Look) → length t ≡ track_cells → l ≡ t → part_no part ≡ p
-    → either (eqb (part_no part) 0) (leb c track_cells) ≡ true → x ≡ part_look l c part
-    → pick (call_fits (length t) c p 2) (part_look t c (part_of p)) (Err WrongCall) ≡ x
+    → x ≡ pick (either (eqb (part_no part) 0) (leb c track_cells)) (part_look l c part) (Err WrongCall)
+    → x ≡ pick (call_fits (length t) c p 2) (part_look t c (part_of p)) (Err WrongCall)
 unfolding call_fits
-look_told t l c p part x h e n g k =
+look_told t l c p part x h e n k =
     let low : p ≤ 3 = omega (arith, highest part) in
-    let fits : either (eqb p 0) (leb c track_cells) ≡ true = ap (λ q. either (eqb q 0) (leb c track_cells)) (sym n) ∙ g in
-    let whole : call_fits (length t) c p 2 ≡ true = both_of (eq-eqb (length t) track_cells h) (both_of (le-leb p 3 low) fits) in
-    let same : part_of p ≡ part = ap part_of (sym n) ∙ numbered part in
-    ap (λ b. pick b (part_look t c (part_of p)) (Err WrongCall)) whole ∙ ap (part_look t c) same ∙ ap (λ y. part_look y c part) (sym e) ∙ sym k
+    let fits = both_is (either (eqb p 0) (leb c track_cells)) (le-leb p 3 low) in
+    let whole : call_fits (length t) c p 2 ≡ either (eqb p 0) (leb c track_cells) = both_is _ (eq-eqb (length t) track_cells h) ∙ fits in
+    let same : part ≡ part_of p = sym (numbered part) ∙ ap part_of n in
+    k ∙ ap (λ q. pick (either (eqb q 0) (leb c track_cells)) (part_look l c part) (Err WrongCall)) n
+    ∙ ap (λ b. pick b (part_look l c part) (Err WrongCall)) (sym whole)
+    ∙ ap (λ y. pick (call_fits (length t) c p 2) (part_look y c part) (Err WrongCall)) e
+    ∙ ap (λ q. pick (call_fits (length t) c p 2) (part_look t c q) (Err WrongCall)) same

@@ -10,13 +10,13 @@ ghost use Rattle.look.specs.Look.{marker_call, looks_at, key_look, data_look, pa
 use areas::{Area, Part};
 use cells::Track;
 
-// The numbers that an area is told in.
+// The numbers that an area is told in: C lends so many.
 const AREA_NUMBERS: usize = 2;
 
 // What cells that are no track are answered.
 const NO_TRACK: u16 = 65535;
 
-// Why no readable area is seen.
+// The error of a look: why no readable area is seen. One that is absent, or not known, has no place to tell.
 #[derive(Clone, Copy)]
 pub enum Unseen {
     WrongCall,
@@ -68,27 +68,23 @@ fn look_data(track: &Track, c: u16) -> Result<Area, Unseen>
     look_at(track, areas::data_area(c, n))
 }
 
+// A part of the record whose count area is at a cell, on the track or at its end; the home address is of no record. Each part lies elsewhere, so that
+// closures would only hide these arms.
 #[tactic(auto, unfolding(crate::specs::Look::part_look))]
 fn look_part(track: &Track, c: u16, part: Part) -> Result<Area, Unseen>
-    ensures { result ≡ part_look track.now c part }
+    ensures { result ≡ pick (either (eqb (part_no part) 0) (leb c track_cells)) (part_look track.now c part) (Err Unseen.WrongCall) }
 {
     match part {
         Part::Home => look_at(track, areas::home_area()),
+        _ if c > cells::TRACK_END => Err(Unseen::WrongCall),
         Part::Count => look_at(track, areas::count_area(c)),
         Part::Key => look_key(track, c),
         Part::Data => look_data(track, c),
     }
 }
 
-// Whether a record is on the track, or at its end; the home address is of no record.
-fn fits(part: Part, c: u16) -> bool
-    ensures { result ≡ either (eqb (part_no part) 0) (leb c track_cells) }
-{
-    matches!(part, Part::Home) || c <= cells::TRACK_END
-}
-
 // The part of a number.
-#[tactic(auto, using(crate::proofs::Laws::look_told), unfolding(crate::specs::Look::call_fits))]
+#[tactic(auto, unfolding(crate::specs::Look::call_fits))]
 fn look(track: &[u16], c: u16, p: u8) -> Result<Area, Unseen>
     ensures { result ≡ pick (call_fits (length track.now) c p 2) (part_look track.now c (part_of p)) (Err Unseen.WrongCall) }
 {
@@ -96,9 +92,6 @@ fn look(track: &[u16], c: u16, p: u8) -> Result<Area, Unseen>
     let Ok(part) = Part::try_from(p) else {
         return Err(Unseen::WrongCall);
     };
-    if !fits(part, c) {
-        return Err(Unseen::WrongCall);
-    }
     look_part(track, c, part)
 }
 
@@ -110,7 +103,7 @@ fn put(area: &mut [u32; AREA_NUMBERS], a: Area)
     *area = [a.first, a.bytes];
 }
 
-// The number of what was found; an area is written.
+// The number of what was found, which is what C is told (`poplar_area`); an area is written.
 #[tactic(auto, unfolding(crate::specs::Look::looked_of, crate::specs::Look::look_no, crate::specs::Look::numbers_left))]
 fn tell(area: &mut [u32; AREA_NUMBERS], found: Result<Area, Unseen>) -> u8
     ensures { looked result area.new ≡ looked_of found area.old }
@@ -130,8 +123,9 @@ fn tell(area: &mut [u32; AREA_NUMBERS], found: Result<Area, Unseen>) -> u8
     }
 }
 
+// One area of a track: by its part 0 the home address, 1, 2 and 3 the count, key and data area of the record whose count area is at a cell. What C calls
+// is this, so it is told by a number and two lent ones.
 #[tactic(auto, using(cells::proofs::Tests::tests), unfolding(crate::specs::Look::area_call, crate::specs::Look::look, crate::specs::Look::call_fits, crate::specs::Look::looked_of, crate::specs::Look::look_no, crate::specs::Look::numbers_left))]
-// One area of a track: by its part 0 the home address, 1, 2 and 3 the count, key and data area of the record whose count area is at a cell.
 pub fn area(track: &[u16], c: u16, p: u8, area: &mut [u32]) -> u8
     ensures { looked result area.new ≡ area_call track.now c p area.old }
 {

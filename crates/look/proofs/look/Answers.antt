@@ -1,5 +1,4 @@
 -- `look::look` makes the model's tests, in the model's order.
-use Rattle.std.proofs.Common.{sym, ◌∙◌}
 use Rattle.std.proofs.lemmas.Option.{MatchOption-at_some}
 use Rattle.look.proofs.Laws.{look_told}
 use Rattle.look.proofs.look.Goals as goal
@@ -7,5 +6,4 @@ use Rattle.look.proofs.look.Goals as goal
 pub returns : goal.returns
 returns c =
     let whole = MatchOption-at_some _ _ c.in_ok-track.track c.in_ok-track.ensures.ok_part c.as_array.ensures.cases in
-    let fits = sym c.fits.ensures ∙ c.if-not-fits.false in
-    sym (look_told _ _ _ _ c.in-Ok.part _ whole.long whole.same c.in-Ok.ensures fits c.look_part.ensures)
+    look_told _ _ _ _ c.in-Ok.part _ whole.long whole.same c.in-Ok.ensures c.look_part.ensures
