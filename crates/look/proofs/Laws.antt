@@ -1,5 +1,5 @@
 -- What the code's looks come to, in the model's words.
-use Rattle.std.proofs.Common.{ℕ, ◌≡◌, ◌≤◌, List, length, Option, Some, None, Err, eqb, Bool, true, refl, sym, ap, ◌∙◌, arith}
+use Rattle.std.proofs.Common.{ℕ, ◌≡◌, ◌≤◌, List, length, Option, Some, None, Err, eqb, Bool, true, false, refl, sym, ap, ◌∙◌, arith}
 use lib.Dec.{leb}
 use Rattle.std.specs.Option.{unwrap_or}
 use borrow.Author.Tests.{le-leb, eq-eqb, ne_eqb}
@@ -9,7 +9,7 @@ use Rattle.areas.specs.declared.{Part.Part}
 use Rattle.areas.specs.declared.Part.TheVariants.{Home, Count, Key, Data}
 use Rattle.areas.specs.Parts.{part_no}
 use Rattle.look.specs.declared.Unseen.TheVariants.{WrongCall}
-use Rattle.look.specs.Look.{marked, marked_by, marked_no, marker_call, Look, part_look, part_of, call_fits}
+use Rattle.look.specs.Look.{marked, marked_by, marked_no, marker_call, Look, part_look, part_of, call_fits, look, look_no, numbers_left, looked, looked_of, area_call}
 
 -- a marker is told by its cell, or by one that is no cell
 number_told : (f : Option ℕ) → marked_no (marked_by f) ≡ unwrap_or f track_cells
@@ -61,3 +61,19 @@ look_told t l c p part x h e n k =
     ∙ ap (λ b. pick b (part_look l c part) (Err WrongCall)) (sym whole)
     ∙ ap (λ y. pick (call_fits (length t) c p 2) (part_look y c part) (Err WrongCall)) e
     ∙ ap (λ q. pick (call_fits (length t) c p 2) (part_look t c q) (Err WrongCall)) same
+
+-- the call, with two numbers to write and without
+both_not : (a b d : Bool) → b ≡ false → both a (both b d) ≡ false
+both_not true b d e = ap (λ x. both x d) e
+both_not false b d e = refl
+
+pub call_told : (t : List ℕ) (c p : ℕ) (v : List ℕ) → length v ≡ 2
+    → area_call t c p v ≡ looked_of (pick (call_fits (length t) c p 2) (part_look t c (part_of p)) (Err WrongCall)) v
+unfolding area_call look
+call_told t c p v h = ap (λ n. looked_of (pick (call_fits (length t) c p n) (part_look t c (part_of p)) (Err WrongCall)) v) h
+
+pub call_wrong : (t : List ℕ) (c p : ℕ) (v : List ℕ) → (length v ≡ 2 → ⊥) → area_call t c p v ≡ looked 0 v
+unfolding area_call look call_fits looked_of look_no numbers_left
+call_wrong t c p v h =
+    let wrong = both_not (eqb (length t) track_cells) (eqb (length v) 2) _ (ne_eqb (length v) 2 h) in
+    ap (λ b. looked_of (pick b (part_look t c (part_of p)) (Err WrongCall)) v) wrong

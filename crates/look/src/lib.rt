@@ -125,7 +125,7 @@ fn tell(area: &mut [u32; AREA_NUMBERS], found: Result<Area, Unseen>) -> u8
 
 // One area of a track: by its part 0 the home address, 1, 2 and 3 the count, key and data area of the record whose count area is at a cell. What C calls
 // is this, so it is told by a number and two lent ones.
-#[tactic(auto, using(cells::proofs::Tests::tests), unfolding(crate::specs::Look::area_call, crate::specs::Look::look, crate::specs::Look::call_fits, crate::specs::Look::looked_of, crate::specs::Look::look_no, crate::specs::Look::numbers_left))]
+#[tactic(auto, using(crate::proofs::Laws::call_told, crate::proofs::Laws::call_wrong))]
 pub fn area(track: &[u16], c: u16, p: u8, area: &mut [u32]) -> u8
     ensures { looked result area.new ≡ area_call track.now c p area.old }
 {
