@@ -7,6 +7,10 @@ ghost use Rattle.areas.specs.Areas.{area, readable, row_of, home_area, count_are
 
 use rows::Row;
 
+mod numbers;
+
+pub use numbers::NoPart;
+
 // The bytes of a check, and its cells.
 pub const CHECK: u32 = 2;
 

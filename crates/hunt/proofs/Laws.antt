@@ -1,23 +1,23 @@
 -- Laws of the hunt: one cell on, none left, and that cells before 7 and cells without a marker make no difference.
 use Prim.Native.Nat.{ℕ, zero, suc, ◌+◌, ◌-◌, ◌<◌, ◌≤◌, max}
-use mathlib.Core.Path.{◌≡◌, sym, ap, ◌∙◌}
-use mathlib.Core.Bool.{Bool, true, false, not}
+use mathlib.Core.Path.{◌≡◌, refl, sym, ap, ◌∙◌}
+use mathlib.Core.Bool.{Bool, true, false, not, cond}
 use mathlib.Core.List.{List}
 use native.Mathlib.Numerals.{add-one}
 use native.Mathlib.Nat.{zero-add}
 use native.Mathlib.Omega.{arith}
 use native.Mathlib.Decide.{dec_lt}
-use lib.ListN.{length, get_or, take, drop, drop_of_length-le, get_or-eq_default}
+use lib.ListN.{length, get_or, take, drop, drop_of_length-le}
 use lib.Seq.{drop-cons}
 use lib.Dec.{eqb}
 use borrow.Author.Tests.{le-leb, lt-ltb, le-ltb, eqb-false, not-true}
 use Rattle.cells.specs.Cells.{pick, both, mark_at, marks}
-use Rattle.cells.proofs.Marks.{length-marks, get_or-marks, mark_here, mark_none, mark_low}
+use Rattle.cells.proofs.Marks.{length-marks, get_or-marks, mark_none, mark_low}
 use Rattle.cells.proofs.Tests.{first_of, second_of}
-use Rattle.hunt.specs.declared.Spot.TheVariants.{R0, Marker}
-use Rattle.hunt.specs.Hunt.{markerless, scan, hunt, past_index, ahead_or, next_record, next_id, spaced_to, space_record}
+use Rattle.hunt.specs.declared.Spot.TheVariants.{R0}
+use Rattle.hunt.specs.Hunt.{markerless, scan, hunt, ahead_or, next_id}
+use Rattle.std.specs.List.{find, range_with_len}
 use Rattle.std.specs.Prelude.{Some, None, Option}
-use Rattle.hunt.specs.declared.{Spot.Spot}
 
 module _ (t : List ℕ) (p : ℕ) where
   -- by what stands in cell p
@@ -28,13 +28,7 @@ module _ (t : List ℕ) (p : ℕ) where
       ap (λ (m : List Bool). scan m p) (drop-cons (marks t) p false k)
       ∙ ap (λ (x : Bool). pick x (Some p) (scan (drop (suc p) (marks t)) (suc p))) (get_or-marks t p ∙ e)
 
-  pub hunt_here : p < length t → 7 ≤ p → get_or t p 0 ≡ 512 → hunt (marks t) p ≡ Some p
-  hunt_here h k e = hunt_by true (mark_here t p k e) h
-
-  pub hunt_on : p < length t → (get_or t p 0 ≡ 512 → ⊥) → hunt (marks t) p ≡ hunt (marks t) (p + 1)
-  hunt_on h e = hunt_by false (mark_none t p e) h ∙ ap (hunt (marks t)) (sym (add-one p))
-
-  pub hunt_end : length t ≤ p → hunt (marks t) p ≡ None
+  hunt_end : length t ≤ p → hunt (marks t) p ≡ None
   unfolding hunt scan
   hunt_end h =
       let k : length (marks t) ≤ p = omega (arith, length-marks t) in
@@ -48,12 +42,31 @@ up : (t : List ℕ) (n p : ℕ) → n + p ≡ 7 → 7 ≤ length t → hunt (mar
 up t zero p e h = ap (hunt (marks t)) (sym (zero-add p) ∙ e)
 up t (suc n) p e h = low_on t p (omega arith) h ∙ up t n (suc p) (omega arith) h
 
-pub hunt_first : (t : List ℕ) (p : ℕ) → 7 ≤ length t → hunt (marks t) p ≡ hunt (marks t) (max p 7)
+hunt_first : (t : List ℕ) (p : ℕ) → 7 ≤ length t → hunt (marks t) p ≡ hunt (marks t) (max p 7)
 hunt_first t p h = go (dec_lt p 7)
   where
     go : Dec (p < 7) → hunt (marks t) p ≡ hunt (marks t) (max p 7)
     go (yes k) = up t (7 - p) p (omega arith) h ∙ ap (hunt (marks t)) (omega arith)
     go (no k) = ap (hunt (marks t)) (omega arith)
+
+pub hunt_past : (t : List ℕ) (p : ℕ) → 7 ≤ length t → length t < max p 7 → None ≡ hunt (marks t) p
+hunt_past t p h k = sym (hunt_first t p h ∙ hunt_end t (max p 7) (omega arith))
+
+-- from cell 7 on it comes to the first of the cells that holds 512
+mark_is : (t : List ℕ) (p : ℕ) → 7 ≤ p → mark_at t p ≡ eqb (get_or t p 0) 512
+unfolding mark_at
+mark_is t p h = ap (λ (b : Bool). both b (eqb (get_or t p 0) 512)) (le-leb 7 p h)
+
+cond-pick : {A : Type 0} (b : Bool) (x y : A) → cond b x y ≡ pick b x y
+cond-pick true x y = refl
+cond-pick false x y = refl
+
+pub hunt_find : (t : List ℕ) (n p : ℕ) → n ≡ length t - p → 7 ≤ p → find (λ i. eqb (get_or t i 0) 512) (range_with_len p n) ≡ hunt (marks t) p
+hunt_find t zero p e h = sym (hunt_end t p (omega arith))
+hunt_find t (suc n) p e h =
+    let b = eqb (get_or t p 0) 512 in
+    ap (cond b (Some p)) (hunt_find t n (p + 1) (omega arith) (omega arith) ∙ ap (hunt (marks t)) (add-one p))
+    ∙ cond-pick b (Some p) (hunt (marks t) (suc p)) ∙ sym (hunt_by t p b (mark_is t p h) (omega arith))
 
 -- ---- cells without a marker
 
@@ -68,37 +81,14 @@ over t (suc n) p q b e h =
     hunt_by t p false (mark_none t p (eqb-false x 512 (not-true _ (first_of _ _ d)))) k
     ∙ over t n (suc p) q (second_of (not (eqb x 512)) _ d) (omega arith) h
 
--- a hunt from p may begin at q, if the cells between are such
-pub hunt_bare : (t : List ℕ) (p q : ℕ) (f : Option ℕ) → hunt (marks t) p ≡ f → p ≤ q → q ≤ length t → markerless (take (q - p) (drop p t)) ≡ true → hunt (marks t) q ≡ f
-hunt_bare t p q f e h k b = sym (over t (q - p) p q b (omega arith) k) ∙ e
+-- a hunt may begin behind such cells
+pub hunt_bare : (t : List ℕ) (p n : ℕ) → 7 ≤ length t → max p 7 + n ≤ length t → markerless (take n (drop (max p 7) t)) ≡ true
+    → hunt (marks t) (max p 7 + n) ≡ hunt (marks t) p
+hunt_bare t p n h k b = sym (hunt_first t p h ∙ over t n (max p 7) (max p 7 + n) b (omega arith) k)
 
--- is a marker here: below 7 none, off the track none
-pub mark_off : (t : List ℕ) (p : ℕ) → length t ≤ p → mark_at t p ≡ false
-mark_off t p h = mark_none t p (λ e. omega (arith, get_or-eq_default t 0 h))
-
-pub mark_is : (t : List ℕ) (p : ℕ) → 7 ≤ p → eqb (get_or t p 0) 512 ≡ mark_at t p
-unfolding mark_at
-mark_is t p h = ap (λ (b : Bool). both b (eqb (get_or t p 0) 512)) (sym (le-leb 7 p h))
-
--- ---- the next record, by what the hunt finds
+-- ---- the record that Search ID takes, by what the hunt finds
 
 module _ (m : List Bool) (p : ℕ) where
-  pub next_ahead : (q : ℕ) → hunt m p ≡ Some q → Some (Marker q, 0) ≡ next_record m p
-  unfolding next_record ahead_or
-  next_ahead q e = sym (ap (λ (f : Option ℕ). ahead_or f (past_index (hunt m 7))) e)
-
-  past : (f : Option ℕ) → hunt m p ≡ None → hunt m 7 ≡ f → past_index f ≡ next_record m p
-  unfolding next_record ahead_or
-  past f e g = sym (ap (λ (x : Option ℕ). ahead_or x (past_index (hunt m 7))) e ∙ ap past_index g)
-
-  pub next_past : (q : ℕ) → hunt m p ≡ None → hunt m 7 ≡ Some q → Some (Marker q, 1) ≡ next_record m p
-  unfolding past_index
-  next_past q e g = past (Some q) e g
-
-  pub next_none : hunt m p ≡ None → hunt m 7 ≡ None → None ≡ next_record m p
-  unfolding past_index
-  next_none e g = past None e g
-
   pub id_low : p < 7 → Some (R0, 0) ≡ next_id m p
   unfolding next_id
   id_low h = ap (λ (b : Bool). pick b (Some (R0, 0)) (ahead_or (hunt m p) (Some (R0, 1)))) (sym (lt-ltb p 7 h))
@@ -108,11 +98,3 @@ module _ (m : List Bool) (p : ℕ) where
   id_high f h e =
       ap (λ (x : Option ℕ). ahead_or x (Some (R0, 1))) (sym e)
       ∙ ap (λ (b : Bool). pick b (Some (R0, 0)) (ahead_or (hunt m p) (Some (R0, 1)))) (sym (le-ltb p 7 h))
-
-  pub spaced_to_lem : (b : Bool) (n : Option (Spot × ℕ)) → b ≡ false → next_record m p ≡ n → spaced_to n ≡ space_record m p b
-  unfolding space_record
-  spaced_to_lem b n g e = ap spaced_to (sym e) ∙ ap (λ (x : Bool). pick x 7 (spaced_to (next_record m p))) (sym g)
-
-  pub spaced_home : (b : Bool) → b ≡ true → 7 ≡ space_record m p b
-  unfolding space_record
-  spaced_home b g = ap (λ (x : Bool). pick x 7 (spaced_to (next_record m p))) (sym g)

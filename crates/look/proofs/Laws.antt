@@ -1,102 +1,79 @@
--- What the code's looks come to, in the model's words: each test of the code is one of the model's, in the same order.
-use Prim.Native.Nat.{ℕ}
-use mathlib.Core.Path.{◌≡◌, refl, sym, ap, ◌∙◌}
-use mathlib.Core.Bool.{Bool, true, false}
-use mathlib.Core.List.{List, [], ◌∷◌}
-use lib.ListN.{length, set}
-use lib.Dec.{eqb}
-use native.Mathlib.Omega.{arith}
-use borrow.Author.Tests.{eq-eqb, ne_eqb, eqb-true}
-use Rattle.cells.specs.Cells.{track_cells, marks}
-use Rattle.cells.proofs.Tests.{first_of, second_of, first_picked, second_picked}
-use Rattle.areas.specs.declared.{Part.Part, Area.Area, Counts.Counts}
-use Rattle.areas.specs.Areas.{readable, read_count, key_area, data_area}
+-- What the code's looks come to, in the model's words.
+use Rattle.std.proofs.Common.{ℕ, ◌≡◌, ◌≤◌, List, length, Option, Some, None, Err, eqb, Bool, true, false, refl, sym, ap, ◌∙◌, arith}
+use lib.Dec.{leb}
+use Rattle.std.specs.Option.{unwrap_or}
+use borrow.Author.Tests.{le-leb, eq-eqb, ne_eqb}
+use Rattle.cells.specs.Cells.{pick, both, either, marks, track_cells}
 use Rattle.hunt.specs.Hunt.{hunt}
-use Rattle.look.specs.declared.{Marked.Marked, Look.Look}
-use Rattle.look.specs.declared.Marked.TheVariants.{NoTrack}
-use Rattle.look.specs.declared.Look.TheVariants.{WrongCall, Readable, Unreadable, Absent, NotKnown}
-use Rattle.look.specs.Look.{marked_by, marked, marked_no, marker_call, looks_at, key_look, data_look, part_look, part_of, call_fits, look, look_no, numbers_left, looked, looked_of, area_call}
-use Rattle.std.specs.Prelude.{Some, None, Option}
+use Rattle.areas.specs.declared.{Part.Part}
+use Rattle.areas.specs.declared.Part.TheVariants.{Home, Count, Key, Data}
+use Rattle.areas.specs.Parts.{part_no}
+use Rattle.look.specs.declared.Unseen.TheVariants.{WrongCall}
+use Rattle.look.specs.Look.{marked, marked_by, marked_no, marker_call, Look, part_look, part_of, call_fits, look, look_no, numbers_left, looked, looked_of, area_call}
 
--- ---- markers
+-- a marker is told by its cell, or by one that is no cell
+number_told : (f : Option ℕ) → marked_no (marked_by f) ≡ unwrap_or f track_cells
+unfolding marked_by marked_no
+number_told (Some p) = refl
+number_told None = refl
 
-module _ (t : List ℕ) (place : ℕ) where
-  pub no_track : (length t ≡ track_cells → ⊥) → NoTrack ≡ marked t place
-  unfolding marked
-  no_track h = sym (second_picked (eqb (length t) track_cells) (marked_by (hunt (marks t) place)) NoTrack (ne_eqb (length t) track_cells h))
+pub marker_told : (t l : List ℕ) (place r : ℕ) (f : Option ℕ) → length t ≡ track_cells → l ≡ t → f ≡ hunt (marks l) place → r ≡ unwrap_or f track_cells
+    → marker_call t place ≡ r
+unfolding marker_call marked
+marker_told t l place r f h e g k =
+    ap (λ b. marked_no (pick b (marked_by (hunt (marks t) place)) None)) (eq-eqb (length t) track_cells h)
+    ∙ number_told (hunt (marks t) place) ∙ ap (λ x. unwrap_or (hunt (marks x) place) track_cells) (sym e)
+    ∙ ap (λ x. unwrap_or x track_cells) (sym g) ∙ sym k
 
-  pub on_track_lem : (f : Option ℕ) → length t ≡ track_cells → f ≡ hunt (marks t) place → marked_by f ≡ marked t place
-  unfolding marked
-  on_track_lem f h e =
-      ap marked_by e ∙ sym (first_picked (eqb (length t) track_cells) (marked_by (hunt (marks t) place)) NoTrack (eq-eqb (length t) track_cells h))
+pub no_track : (t : List ℕ) (place : ℕ) → (length t ≡ track_cells → ⊥) → marker_call t place ≡ 65535
+unfolding marker_call marked marked_no
+no_track t place h = ap (λ b. marked_no (pick b (marked_by (hunt (marks t) place)) None)) (ne_eqb (length t) track_cells h)
 
-  pub marker_told : (m : Marked) (n : ℕ) → m ≡ marked t place → n ≡ marked_no m → n ≡ marker_call t place
-  unfolding marker_call
-  marker_told m n e f = f ∙ ap marked_no e
+-- of two tests one is known
+both_is : {a : Bool} (b : Bool) → a ≡ true → both a b ≡ b
+both_is b e = ap (λ a. both a b) e
 
--- ---- areas
+-- a part that has a number is the part of that number
 
-module _ (t : List ℕ) (a : Area) (b : Bool) (e : b ≡ readable t a) where
-  pub is_readable : b ≡ true → Readable a ≡ looks_at t a
-  unfolding looks_at
-  is_readable g = sym (first_picked (readable t a) (Readable a) (Unreadable a) (sym e ∙ g))
+numbered : (part : Part) → part_of (part_no part) ≡ part
+unfolding part_of
+numbered Home = refl
+numbered Count = refl
+numbered Key = refl
+numbered Data = refl
 
-  pub is_unreadable : b ≡ false → Unreadable a ≡ looks_at t a
-  unfolding looks_at
-  is_unreadable g = sym (second_picked (readable t a) (Readable a) (Unreadable a) (sym e ∙ g))
+highest : (part : Part) → part_no part ≤ 3
+highest Home = omega arith
+highest Count = omega arith
+highest Key = omega arith
+highest Data = omega arith
 
-module _ (t : List ℕ) (c : ℕ) (r : Option Counts) (e : r ≡ read_count t c) where
-  module _ (n : Counts) (f : r ≡ Some n) where
-    pub key_absent : n.kl ≡ 0 → Absent ≡ key_look t c (read_count t c)
-    unfolding key_look
-    key_absent h =
-        sym (first_picked (eqb n.kl 0) Absent (looks_at t (key_area c n)) (eq-eqb n.kl 0 h)) ∙ ap (key_look t c) (sym f ∙ e)
+pub look_told : (t l : List ℕ) (c p : ℕ) (part : Part) (x : Look) → length t ≡ track_cells → l ≡ t → part_no part ≡ p
+    → x ≡ pick (either (eqb (part_no part) 0) (leb c track_cells)) (part_look l c part) (Err WrongCall)
+    → x ≡ pick (call_fits (length t) c p 2) (part_look t c (part_of p)) (Err WrongCall)
+unfolding call_fits
+look_told t l c p part x h e n k =
+    let low : p ≤ 3 = omega (arith, highest part) in
+    let fits = both_is (either (eqb p 0) (leb c track_cells)) (le-leb p 3 low) in
+    let whole : call_fits (length t) c p 2 ≡ either (eqb p 0) (leb c track_cells) = both_is _ (eq-eqb (length t) track_cells h) ∙ fits in
+    let same : part ≡ part_of p = sym (numbered part) ∙ ap part_of n in
+    k ∙ ap (λ q. pick (either (eqb q 0) (leb c track_cells)) (part_look l c part) (Err WrongCall)) n
+    ∙ ap (λ b. pick b (part_look l c part) (Err WrongCall)) (sym whole)
+    ∙ ap (λ y. pick (call_fits (length t) c p 2) (part_look y c part) (Err WrongCall)) e
+    ∙ ap (λ q. pick (call_fits (length t) c p 2) (part_look t c q) (Err WrongCall)) same
 
-    pub key_there : (n.kl ≡ 0 → ⊥) → (a : Area) (x : Look) → a ≡ key_area c n → x ≡ looks_at t a → x ≡ key_look t c (read_count t c)
-    unfolding key_look
-    key_there h a x p q =
-        q ∙ ap (looks_at t) p ∙ sym (second_picked (eqb n.kl 0) Absent (looks_at t (key_area c n)) (ne_eqb n.kl 0 h)) ∙ ap (key_look t c) (sym f ∙ e)
+-- the call, with two numbers to write and without
+both_not : (a b d : Bool) → b ≡ false → both a (both b d) ≡ false
+both_not true b d e = ap (λ x. both x d) e
+both_not false b d e = refl
 
-    pub data_there : (a : Area) (x : Look) → a ≡ data_area c n → x ≡ looks_at t a → x ≡ data_look t c (read_count t c)
-    unfolding data_look
-    data_there a x p q = q ∙ ap (looks_at t) p ∙ ap (data_look t c) (sym f ∙ e)
+pub call_told : (t : List ℕ) (c p : ℕ) (v : List ℕ) → length v ≡ 2
+    → area_call t c p v ≡ looked_of (pick (call_fits (length t) c p 2) (part_look t c (part_of p)) (Err WrongCall)) v
+unfolding area_call look
+call_told t c p v h = ap (λ n. looked_of (pick (call_fits (length t) c p n) (part_look t c (part_of p)) (Err WrongCall)) v) h
 
-  pub key_not_known : r ≡ None → NotKnown ≡ key_look t c (read_count t c)
-  unfolding key_look
-  key_not_known f = ap (key_look t c) (sym f ∙ e)
-
-  pub data_not_known : r ≡ None → NotKnown ≡ data_look t c (read_count t c)
-  unfolding data_look
-  data_not_known f = ap (data_look t c) (sym f ∙ e)
-
--- two numbers, both written
-pub both-set : (v : List ℕ) (x y : ℕ) → length v ≡ 2 → set (set v 0 x) 1 y ≡ x ∷ y ∷ []
-both-set [] x y h = absurd (omega (arith, h))
-both-set (a ∷ []) x y h = absurd (omega (arith, h))
-both-set (a ∷ b ∷ []) x y h = refl
-both-set (a ∷ b ∷ d ∷ v) x y h = absurd (omega (arith, h))
-
-pub looked_eq : {m n : ℕ} {v w : List ℕ} → m ≡ n → v ≡ w → looked m v ≡ looked n w
-looked_eq p q = λ i. record { answer = p i; area = q i }
-
--- ---- the call
-
-module _ (t v : List ℕ) (c p : ℕ) (b : Bool) (e : b ≡ call_fits (length t) c p (length v)) where
-  pub two_numbers : b ≡ true → length v ≡ 2
-  unfolding call_fits
-  two_numbers g =
-      eqb-true (length v) 2
-      (first_of (eqb (length v) 2) _ (second_of (eqb (length t) track_cells) _ (sym e ∙ g)))
-
-  pub call_told : b ≡ true → (q : Part) (x : Look) (r : ℕ) (w : List ℕ) → q ≡ part_of p → x ≡ part_look t c q → looked r w ≡ looked_of x v
-      → looked r w ≡ area_call t c p v
-  unfolding area_call look
-  call_told g q x r w i j k =
-      k ∙ ap (λ (y : Look). looked_of y v)
-      (j ∙ ap (part_look t c) i ∙ sym (first_picked (call_fits (length t) c p (length v)) (part_look t c (part_of p)) WrongCall (sym e ∙ g)))
-
-  pub call_wrong : b ≡ false → looked 0 v ≡ area_call t c p v
-  unfolding area_call look looked_of look_no numbers_left
-  call_wrong g =
-      ap (λ (y : Look). looked_of y v)
-      (sym (second_picked (call_fits (length t) c p (length v)) (part_look t c (part_of p)) WrongCall (sym e ∙ g)))
+pub call_wrong : (t : List ℕ) (c p : ℕ) (v : List ℕ) → (length v ≡ 2 → ⊥) → area_call t c p v ≡ looked 0 v
+unfolding area_call look call_fits looked_of look_no numbers_left
+call_wrong t c p v h =
+    let wrong = both_not (eqb (length t) track_cells) (eqb (length v) 2) _ (ne_eqb (length v) 2 h) in
+    ap (λ b. looked_of (pick b (part_look t c (part_of p)) (Err WrongCall)) v) wrong
