@@ -2,7 +2,7 @@
 #![tactic(auto)]
 
 ghost use Rattle.std.specs.Prelude.{◌≡◌, true, false};
-ghost use Rattle.table.specs.Table.{plain_row, look_row, seek_row, search_row, read_row, write_row, count, count_key, selects, selects_none, accepts, excepts, searches, reads, writes, unknown, find, rule_of, looks, serves_data, serves_key, is_home, is_mask, bars_write, bars_seek};
+ghost use Rattle.table.specs.Table.{seek_row, controls, searches, reads, writes, unknown, find, rule_of, looks, serves_data, serves_key, is_home, is_mask, bars_write, bars_seek};
 ghost use Rattle.table.specs.declared.{Licence.Licence, Writing.Writing, Bar.Bar, Act.Act, Write.Write, Aim.Aim, Names.Names, Serves.Serves};
 
 // What satisfies a search: equal, the track's higher, or either.
@@ -121,15 +121,6 @@ pub struct Rule {
     pub clears: bool,
 }
 
-// The record is left selected, or is not; DL = 0 is Unit Exception, or may be.
-const SELECTS: bool = true;
-
-const SELECTS_NONE: bool = false;
-
-const EXCEPTS: bool = true;
-
-const ACCEPTS: bool = false;
-
 // Of a mask the rightmost of bits 0-1, bit 2, and the rightmost of bits 3-4; bits 5 to 7 are below.
 const BIT_1: u8 = 0x40;
 
@@ -137,241 +128,254 @@ const BIT_2: u8 = 0x20;
 
 const BIT_4: u8 = 0x08;
 
-// Control: sense is cleared first, or is not.
-fn plain_row(l: Licence, b: Bar, a: Control, clears: bool) -> Rule
-    ensures { result ≡ plain_row l b a clears }
+// The row of an unknown code, and of every other code what its own row does not say.
+const UNKNOWN: Rule = Rule {
+    licence: Licence::Any,
+    bar: Bar::Nothing,
+    aim: Aim::Stays,
+    names: Names::Nothing,
+    act: Act::Control(Control::Unknown),
+    selects: false,
+    serves: Serves::Nobody,
+    excepts: false,
+    clears: true,
+};
+
+// Write Data and Write Key and Data, but for the command before and the key.
+const UPDATE: Rule = Rule {
+    bar: Bar::Writes(Writing::Update),
+    aim: Aim::Selected,
+    names: Names::Count(false, false),
+    excepts: true,
+    ..UNKNOWN
+};
+
+// The reads of a record's key and data, but for which record, and whether its count's 8 bytes move.
+const READ: Rule = Rule {
+    names: Names::Count(true, true),
+    excepts: true,
+    ..UNKNOWN
+};
+
+// The searches by ID, and those by key, but for what satisfies them.
+const SEARCH_ID: Rule = Rule {
+    aim: Aim::NextId,
+    names: Names::Count(false, false),
+    selects: true,
+    serves: Serves::DataAndKey,
+    ..UNKNOWN
+};
+
+const SEARCH_KEY: Rule = Rule {
+    aim: Aim::NextForKey,
+    names: Names::Count(true, false),
+    selects: true,
+    serves: Serves::Data,
+    ..UNKNOWN
+};
+
+#[tactic(auto, using(cells::proofs::Tests::tests), unfolding(crate::specs::Table::find, crate::specs::Table::writes))]
+fn write_of(code: u8) -> Rule
+    ensures { result ≡ find code writes unknown }
 {
-    Rule {
-        licence: l,
-        bar: b,
-        aim: Aim::Stays,
-        names: Names::Nothing,
-        act: Act::Control(a),
-        selects: SELECTS_NONE,
-        serves: Serves::Nobody,
-        excepts: ACCEPTS,
-        clears,
+    match code {
+        0x19 => Rule {
+            bar: Bar::Writes(Writing::HomeOrR0),
+            aim: Aim::HomeAddress,
+            act: Act::Write(Write::HomeAddress),
+            ..UNKNOWN
+        },
+        0x15 => Rule {
+            licence: Licence::HomeAddress,
+            bar: Bar::Writes(Writing::HomeOrR0),
+            aim: Aim::R0,
+            names: Names::HomeAddress,
+            act: Act::Write(Write::R0),
+            selects: true,
+            ..UNKNOWN
+        },
+        0x1D => Rule {
+            licence: Licence::WrittenOrEqual,
+            bar: Bar::Writes(Writing::CountKeyData),
+            aim: Aim::Selected,
+            names: Names::Count(false, false),
+            act: Act::Write(Write::CountKeyData),
+            selects: true,
+            ..UNKNOWN
+        },
+        0x05 => Rule {
+            licence: Licence::EqualIdOrKey,
+            act: Act::Write(Write::Update(false)),
+            ..UPDATE
+        },
+        0x0D => Rule {
+            licence: Licence::EqualId,
+            act: Act::Write(Write::Update(true)),
+            ..UPDATE
+        },
+        _ => UNKNOWN,
+    }
+}
+
+#[tactic(auto, using(cells::proofs::Tests::tests), unfolding(crate::specs::Table::find, crate::specs::Table::reads))]
+fn read_of(code: u8) -> Rule
+    ensures { result ≡ find code reads (find code writes unknown) }
+{
+    match code {
+        0x1A => Rule {
+            aim: Aim::HomeAddress,
+            names: Names::HomeAddress,
+            act: Act::Read(false),
+            ..UNKNOWN
+        },
+        0x16 => Rule {
+            aim: Aim::R0,
+            act: Act::Read(true),
+            ..READ
+        },
+        0x12 => Rule {
+            aim: Aim::Next,
+            names: Names::Count(false, false),
+            act: Act::Read(true),
+            selects: true,
+            serves: Serves::DataAndKey,
+            ..UNKNOWN
+        },
+        0x06 => Rule {
+            aim: Aim::NextForData,
+            names: Names::Count(false, true),
+            act: Act::Read(false),
+            ..READ
+        },
+        0x0E => Rule {
+            aim: Aim::NextForKey,
+            act: Act::Read(false),
+            ..READ
+        },
+        0x1E => Rule {
+            aim: Aim::Next,
+            act: Act::Read(true),
+            ..READ
+        },
+        _ => write_of(code),
+    }
+}
+
+#[tactic(auto, using(cells::proofs::Tests::tests), unfolding(crate::specs::Table::find, crate::specs::Table::searches))]
+fn search_of(code: u8) -> Rule
+    ensures { result ≡ find code searches (find code reads (find code writes unknown)) }
+{
+    match code {
+        0x39 => Rule {
+            aim: Aim::HomeAddress,
+            names: Names::HomeAddress,
+            act: Act::Search(How::IfEqual),
+            ..UNKNOWN
+        },
+        0x31 => Rule {
+            act: Act::Search(How::IfEqual),
+            ..SEARCH_ID
+        },
+        0x51 => Rule {
+            act: Act::Search(How::IfHigh),
+            ..SEARCH_ID
+        },
+        0x71 => Rule {
+            act: Act::Search(How::IfEqualOrHigh),
+            ..SEARCH_ID
+        },
+        0x29 => Rule {
+            act: Act::Search(How::IfEqual),
+            ..SEARCH_KEY
+        },
+        0x49 => Rule {
+            act: Act::Search(How::IfHigh),
+            ..SEARCH_KEY
+        },
+        0x69 => Rule {
+            act: Act::Search(How::IfEqualOrHigh),
+            ..SEARCH_KEY
+        },
+        _ => read_of(code),
     }
 }
 
 fn seek_row(k: Seeking) -> Rule
     ensures { result ≡ seek_row k }
 {
-    plain_row(Licence::Any, Bar::Seeks(k), Control::Seek(k), true)
-}
-
-// A search or a read that leaves its record selected: its count is read, with the key or not.
-fn selecting_row(a: Aim, key: bool, act: Act, v: Serves) -> Rule
-    ensures { result ≡ look_row a (Names.Count key false) act selects v accepts }
-{
     Rule {
-        licence: Licence::Any,
-        bar: Bar::Nothing,
-        aim: a,
-        names: Names::Count(key, false),
-        act,
-        selects: SELECTS,
-        serves: v,
-        excepts: ACCEPTS,
-        clears: true,
+        bar: Bar::Seeks(k),
+        act: Act::Control(Control::Seek(k)),
+        ..UNKNOWN
     }
 }
 
-// A search or a read that does not.
-fn unselecting_row(a: Aim, n: Names, act: Act, x: bool) -> Rule
-    ensures { result ≡ look_row a n act selects_none Serves.Nobody x }
-{
-    Rule {
-        licence: Licence::Any,
-        bar: Bar::Nothing,
-        aim: a,
-        names: n,
-        act,
-        selects: SELECTS_NONE,
-        serves: Serves::Nobody,
-        excepts: x,
-        clears: true,
-    }
-}
-
-fn write_row(l: Licence, b: Writing, a: Aim, n: Names, w: Write, s: bool, x: bool) -> Rule
-    ensures { result ≡ write_row l b a n w s x }
-{
-    Rule {
-        licence: l,
-        bar: Bar::Writes(b),
-        aim: a,
-        names: n,
-        act: Act::Write(w),
-        selects: s,
-        serves: Serves::Nobody,
-        excepts: x,
-        clears: true,
-    }
-}
-
-// Write Data and Write Key and Data.
-fn update_row(l: Licence, key: bool) -> Rule
-    ensures { result ≡ write_row l Writing.Update Aim.Selected count (Write.Update key) selects_none excepts }
-{
-    write_row(
-        l,
-        Writing::Update,
-        Aim::Selected,
-        Names::Count(false, false),
-        Write::Update(key),
-        SELECTS_NONE,
-        EXCEPTS,
-    )
-}
-
-fn write_of(code: u8) -> Rule
-    ensures { result ≡ find code writes unknown }
-{
-    match code {
-        0x19 => write_row(
-            Licence::Any,
-            Writing::HomeOrR0,
-            Aim::HomeAddress,
-            Names::Nothing,
-            Write::HomeAddress,
-            SELECTS_NONE,
-            ACCEPTS,
-        ),
-        0x15 => write_row(
-            Licence::HomeAddress,
-            Writing::HomeOrR0,
-            Aim::R0,
-            Names::HomeAddress,
-            Write::R0,
-            SELECTS,
-            ACCEPTS,
-        ),
-        0x1D => write_row(
-            Licence::WrittenOrEqual,
-            Writing::CountKeyData,
-            Aim::Selected,
-            Names::Count(false, false),
-            Write::CountKeyData,
-            SELECTS,
-            ACCEPTS,
-        ),
-        0x05 => update_row(Licence::EqualIdOrKey, false),
-        0x0D => update_row(Licence::EqualId, true),
-        _ => plain_row(Licence::Any, Bar::Nothing, Control::Unknown, true),
-    }
-}
-
-// A search or a read of the home address.
-fn home_row(act: Act) -> Rule
-    ensures { result ≡ look_row Aim.HomeAddress Names.HomeAddress act selects_none Serves.Nobody accepts }
-{
-    unselecting_row(Aim::HomeAddress, Names::HomeAddress, act, ACCEPTS)
-}
-
-// A read of a record's data, with the key or not; a count's 8 bytes move, or do not.
-fn data_row(a: Aim, key: bool, counted: bool) -> Rule
-    ensures { result ≡ read_row a (Names.Count key true) counted selects_none Serves.Nobody excepts }
-{
-    unselecting_row(a, Names::Count(key, true), Act::Read(counted), EXCEPTS)
-}
-
-fn read_of(code: u8) -> Rule
-    ensures { result ≡ find code reads (find code writes unknown) }
-{
-    match code {
-        0x1A => home_row(Act::Read(false)),
-        0x16 => data_row(Aim::R0, true, true),
-        0x12 => selecting_row(Aim::Next, false, Act::Read(true), Serves::DataAndKey),
-        0x06 => data_row(Aim::NextForData, false, false),
-        0x0E => data_row(Aim::NextForKey, true, false),
-        0x1E => data_row(Aim::Next, true, true),
-        _ => write_of(code),
-    }
-}
-
-fn search_id_row(h: How) -> Rule
-    ensures { result ≡ search_row Aim.NextId count selects Serves.DataAndKey h }
-{
-    selecting_row(Aim::NextId, false, Act::Search(h), Serves::DataAndKey)
-}
-
-fn search_key_row(h: How) -> Rule
-    ensures { result ≡ search_row Aim.NextForKey count_key selects Serves.Data h }
-{
-    selecting_row(Aim::NextForKey, true, Act::Search(h), Serves::Data)
-}
-
-fn search_of(code: u8) -> Rule
-    ensures { result ≡ find code searches (find code reads (find code writes unknown)) }
-{
-    match code {
-        0x39 => home_row(Act::Search(How::IfEqual)),
-        0x31 => search_id_row(How::IfEqual),
-        0x51 => search_id_row(How::IfHigh),
-        0x71 => search_id_row(How::IfEqualOrHigh),
-        0x29 => search_key_row(How::IfEqual),
-        0x49 => search_key_row(How::IfHigh),
-        0x69 => search_key_row(How::IfEqualOrHigh),
-        _ => read_of(code),
-    }
-}
-
-// The row of a code.
+// The row of a code. The table stands in four parts, as the model's lists, each with those after it.
+#[tactic(auto, using(cells::proofs::Tests::tests), unfolding(crate::specs::Table::rule_of, crate::specs::Table::find, crate::specs::Table::controls))]
 pub fn rule_of(code: u8) -> Rule
     ensures { result ≡ rule_of code }
 {
     match code {
-        0x03 => plain_row(Licence::Any, Bar::Nothing, Control::NoOp, false),
-        0x04 => plain_row(Licence::Any, Bar::Nothing, Control::Sense, false),
+        0x03 => Rule {
+            act: Act::Control(Control::NoOp),
+            clears: false,
+            ..UNKNOWN
+        },
+        0x04 => Rule {
+            act: Act::Control(Control::Sense),
+            clears: false,
+            ..UNKNOWN
+        },
         0x07 => seek_row(Seeking::Seek),
         0x0B => seek_row(Seeking::SeekCylinder),
         0x1B => seek_row(Seeking::SeekHead),
-        0x1F => plain_row(Licence::Any, Bar::Nothing, Control::SetMask, true),
-        0x0F => plain_row(Licence::Look, Bar::Nothing, Control::SpaceRecord, true),
+        0x1F => Rule {
+            act: Act::Control(Control::SetMask),
+            ..UNKNOWN
+        },
+        0x0F => Rule {
+            licence: Licence::Look,
+            act: Act::Control(Control::SpaceRecord),
+            ..UNKNOWN
+        },
         _ => search_of(code),
     }
 }
 
 // Whether a command is a search or a read.
+#[tactic(auto, unfolding(crate::specs::Table::looks))]
 pub fn is_look(a: Act) -> bool
     ensures { result ≡ looks a }
 {
-    match a {
-        Act::Search(_) => true,
-        Act::Read(_) => true,
-        _ => false,
-    }
+    matches!(a, Act::Search(_) | Act::Read(_))
 }
 
 // Whether Read Data takes the record that a command left selected.
+#[tactic(auto, unfolding(crate::specs::Table::serves_data))]
 pub fn serves_data(s: Serves) -> bool
     ensures { result ≡ serves_data s }
 {
-    if let Serves::Nobody = s { false } else { true }
+    !matches!(s, Serves::Nobody)
 }
 
 // Whether Read Key and Data and the searches by key take it.
+#[tactic(auto, unfolding(crate::specs::Table::serves_key))]
 pub fn serves_key(s: Serves) -> bool
     ensures { result ≡ serves_key s }
 {
-    match s {
-        Serves::DataAndKey => true,
-        _ => false,
-    }
+    matches!(s, Serves::DataAndKey)
 }
 
 // Whether a command is home address work.
+#[tactic(auto, unfolding(crate::specs::Table::is_home))]
 pub fn is_home(a: Aim) -> bool
     ensures { result ≡ is_home a }
 {
-    match a {
-        Aim::HomeAddress => true,
-        _ => false,
-    }
+    matches!(a, Aim::HomeAddress)
 }
 
 // Whether a byte is a mask.
+#[tactic(auto, using(cells::proofs::Tests::tests), unfolding(crate::specs::Table::is_mask))]
 pub fn is_mask(mask: u8) -> bool
     ensures { result ≡ is_mask mask }
 {
