@@ -2,7 +2,7 @@
 #![tactic(auto)]
 
 ghost use Rattle.std.specs.Prelude.{◌≡◌, true, false};
-ghost use Rattle.table.specs.Table.{seek_row, controls, searches, reads, writes, unknown, find, rule_of, looks, serves_data, serves_key, is_home, is_mask, bars_write, bars_seek};
+ghost use Rattle.table.specs.Table.{rule_of, looks, serves_data, serves_key, is_home, is_mask, bars_write, bars_seek};
 ghost use Rattle.table.specs.declared.{Licence.Licence, Writing.Writing, Bar.Bar, Act.Act, Write.Write, Aim.Aim, Names.Names, Serves.Serves};
 
 // What satisfies a search: equal, the track's higher, or either.
@@ -128,7 +128,7 @@ const BIT_2: u8 = 0x20;
 
 const BIT_4: u8 = 0x08;
 
-// The row of an unknown code, and of every other code what its own row does not say.
+// An unknown code's row, from which every other differs in the columns that it names.
 const UNKNOWN: Rule = Rule {
     licence: Licence::Any,
     bar: Bar::Nothing,
@@ -141,204 +141,212 @@ const UNKNOWN: Rule = Rule {
     clears: true,
 };
 
-// Write Data and Write Key and Data, but for the command before and the key.
-const UPDATE: Rule = Rule {
-    bar: Bar::Writes(Writing::Update),
-    aim: Aim::Selected,
-    names: Names::Count(false, false),
-    excepts: true,
+// The control commands. No-op and Sense leave sense as it is.
+const NO_OP: Rule = Rule {
+    act: Act::Control(Control::NoOp),
+    clears: false,
     ..UNKNOWN
 };
 
-// The reads of a record's key and data, but for which record, and whether its count's 8 bytes move.
-const READ: Rule = Rule {
-    names: Names::Count(true, true),
-    excepts: true,
+const SENSE: Rule = Rule {
+    act: Act::Control(Control::Sense),
+    ..NO_OP
+};
+
+const SEEK: Rule = Rule {
+    bar: Bar::Seeks(Seeking::Seek),
+    act: Act::Control(Control::Seek(Seeking::Seek)),
     ..UNKNOWN
 };
 
-// The searches by ID, and those by key, but for what satisfies them.
-const SEARCH_ID: Rule = Rule {
+const SEEK_CYLINDER: Rule = Rule {
+    bar: Bar::Seeks(Seeking::SeekCylinder),
+    act: Act::Control(Control::Seek(Seeking::SeekCylinder)),
+    ..UNKNOWN
+};
+
+const SEEK_HEAD: Rule = Rule {
+    bar: Bar::Seeks(Seeking::SeekHead),
+    act: Act::Control(Control::Seek(Seeking::SeekHead)),
+    ..UNKNOWN
+};
+
+const SET_MASK: Rule = Rule {
+    act: Act::Control(Control::SetMask),
+    ..UNKNOWN
+};
+
+const SPACE_RECORD: Rule = Rule {
+    licence: Licence::Look,
+    act: Act::Control(Control::SpaceRecord),
+    ..UNKNOWN
+};
+
+// The searches. By ID and by key the record is left selected.
+const SEARCH_HOME: Rule = Rule {
+    aim: Aim::HomeAddress,
+    names: Names::HomeAddress,
+    act: Act::Search(How::IfEqual),
+    ..UNKNOWN
+};
+
+const SEARCH_ID_EQUAL: Rule = Rule {
     aim: Aim::NextId,
     names: Names::Count(false, false),
+    act: Act::Search(How::IfEqual),
     selects: true,
     serves: Serves::DataAndKey,
     ..UNKNOWN
 };
 
-const SEARCH_KEY: Rule = Rule {
+const SEARCH_ID_HIGH: Rule = Rule {
+    act: Act::Search(How::IfHigh),
+    ..SEARCH_ID_EQUAL
+};
+
+const SEARCH_ID_EQUAL_OR_HIGH: Rule = Rule {
+    act: Act::Search(How::IfEqualOrHigh),
+    ..SEARCH_ID_EQUAL
+};
+
+const SEARCH_KEY_EQUAL: Rule = Rule {
     aim: Aim::NextForKey,
     names: Names::Count(true, false),
+    act: Act::Search(How::IfEqual),
     selects: true,
     serves: Serves::Data,
     ..UNKNOWN
 };
 
-#[tactic(auto, using(cells::proofs::Tests::tests), unfolding(crate::specs::Table::find, crate::specs::Table::writes))]
-fn write_of(code: u8) -> Rule
-    ensures { result ≡ find code writes unknown }
-{
-    match code {
-        0x19 => Rule {
-            bar: Bar::Writes(Writing::HomeOrR0),
-            aim: Aim::HomeAddress,
-            act: Act::Write(Write::HomeAddress),
-            ..UNKNOWN
-        },
-        0x15 => Rule {
-            licence: Licence::HomeAddress,
-            bar: Bar::Writes(Writing::HomeOrR0),
-            aim: Aim::R0,
-            names: Names::HomeAddress,
-            act: Act::Write(Write::R0),
-            selects: true,
-            ..UNKNOWN
-        },
-        0x1D => Rule {
-            licence: Licence::WrittenOrEqual,
-            bar: Bar::Writes(Writing::CountKeyData),
-            aim: Aim::Selected,
-            names: Names::Count(false, false),
-            act: Act::Write(Write::CountKeyData),
-            selects: true,
-            ..UNKNOWN
-        },
-        0x05 => Rule {
-            licence: Licence::EqualIdOrKey,
-            act: Act::Write(Write::Update(false)),
-            ..UPDATE
-        },
-        0x0D => Rule {
-            licence: Licence::EqualId,
-            act: Act::Write(Write::Update(true)),
-            ..UPDATE
-        },
-        _ => UNKNOWN,
-    }
-}
+const SEARCH_KEY_HIGH: Rule = Rule {
+    act: Act::Search(How::IfHigh),
+    ..SEARCH_KEY_EQUAL
+};
 
-#[tactic(auto, using(cells::proofs::Tests::tests), unfolding(crate::specs::Table::find, crate::specs::Table::reads))]
-fn read_of(code: u8) -> Rule
-    ensures { result ≡ find code reads (find code writes unknown) }
-{
-    match code {
-        0x1A => Rule {
-            aim: Aim::HomeAddress,
-            names: Names::HomeAddress,
-            act: Act::Read(false),
-            ..UNKNOWN
-        },
-        0x16 => Rule {
-            aim: Aim::R0,
-            act: Act::Read(true),
-            ..READ
-        },
-        0x12 => Rule {
-            aim: Aim::Next,
-            names: Names::Count(false, false),
-            act: Act::Read(true),
-            selects: true,
-            serves: Serves::DataAndKey,
-            ..UNKNOWN
-        },
-        0x06 => Rule {
-            aim: Aim::NextForData,
-            names: Names::Count(false, true),
-            act: Act::Read(false),
-            ..READ
-        },
-        0x0E => Rule {
-            aim: Aim::NextForKey,
-            act: Act::Read(false),
-            ..READ
-        },
-        0x1E => Rule {
-            aim: Aim::Next,
-            act: Act::Read(true),
-            ..READ
-        },
-        _ => write_of(code),
-    }
-}
+const SEARCH_KEY_EQUAL_OR_HIGH: Rule = Rule {
+    act: Act::Search(How::IfEqualOrHigh),
+    ..SEARCH_KEY_EQUAL
+};
 
-#[tactic(auto, using(cells::proofs::Tests::tests), unfolding(crate::specs::Table::find, crate::specs::Table::searches))]
-fn search_of(code: u8) -> Rule
-    ensures { result ≡ find code searches (find code reads (find code writes unknown)) }
-{
-    match code {
-        0x39 => Rule {
-            aim: Aim::HomeAddress,
-            names: Names::HomeAddress,
-            act: Act::Search(How::IfEqual),
-            ..UNKNOWN
-        },
-        0x31 => Rule {
-            act: Act::Search(How::IfEqual),
-            ..SEARCH_ID
-        },
-        0x51 => Rule {
-            act: Act::Search(How::IfHigh),
-            ..SEARCH_ID
-        },
-        0x71 => Rule {
-            act: Act::Search(How::IfEqualOrHigh),
-            ..SEARCH_ID
-        },
-        0x29 => Rule {
-            act: Act::Search(How::IfEqual),
-            ..SEARCH_KEY
-        },
-        0x49 => Rule {
-            act: Act::Search(How::IfHigh),
-            ..SEARCH_KEY
-        },
-        0x69 => Rule {
-            act: Act::Search(How::IfEqualOrHigh),
-            ..SEARCH_KEY
-        },
-        _ => read_of(code),
-    }
-}
+// The reads.
+const READ_HOME: Rule = Rule {
+    aim: Aim::HomeAddress,
+    names: Names::HomeAddress,
+    act: Act::Read(false),
+    ..UNKNOWN
+};
 
-fn seek_row(k: Seeking) -> Rule
-    ensures { result ≡ seek_row k }
-{
-    Rule {
-        bar: Bar::Seeks(k),
-        act: Act::Control(Control::Seek(k)),
-        ..UNKNOWN
-    }
-}
+const READ_R0: Rule = Rule {
+    aim: Aim::R0,
+    names: Names::Count(true, true),
+    act: Act::Read(true),
+    excepts: true,
+    ..UNKNOWN
+};
 
-// The row of a code. The table stands in four parts, as the model's lists, each with those after it.
-#[tactic(auto, using(cells::proofs::Tests::tests), unfolding(crate::specs::Table::rule_of, crate::specs::Table::find, crate::specs::Table::controls))]
+const READ_COUNT: Rule = Rule {
+    aim: Aim::Next,
+    names: Names::Count(false, false),
+    act: Act::Read(true),
+    selects: true,
+    serves: Serves::DataAndKey,
+    ..UNKNOWN
+};
+
+const READ_DATA: Rule = Rule {
+    aim: Aim::NextForData,
+    names: Names::Count(false, true),
+    act: Act::Read(false),
+    ..READ_R0
+};
+
+const READ_KEY_DATA: Rule = Rule {
+    aim: Aim::NextForKey,
+    act: Act::Read(false),
+    ..READ_R0
+};
+
+const READ_COUNT_KEY_DATA: Rule = Rule {
+    aim: Aim::Next,
+    ..READ_R0
+};
+
+// The writes.
+const WRITE_HOME: Rule = Rule {
+    bar: Bar::Writes(Writing::HomeOrR0),
+    aim: Aim::HomeAddress,
+    act: Act::Write(Write::HomeAddress),
+    ..UNKNOWN
+};
+
+const WRITE_R0: Rule = Rule {
+    licence: Licence::HomeAddress,
+    bar: Bar::Writes(Writing::HomeOrR0),
+    aim: Aim::R0,
+    names: Names::HomeAddress,
+    act: Act::Write(Write::R0),
+    selects: true,
+    ..UNKNOWN
+};
+
+const WRITE_COUNT_KEY_DATA: Rule = Rule {
+    licence: Licence::WrittenOrEqual,
+    bar: Bar::Writes(Writing::CountKeyData),
+    aim: Aim::Selected,
+    names: Names::Count(false, false),
+    act: Act::Write(Write::CountKeyData),
+    selects: true,
+    ..UNKNOWN
+};
+
+const WRITE_DATA: Rule = Rule {
+    licence: Licence::EqualIdOrKey,
+    bar: Bar::Writes(Writing::Update),
+    aim: Aim::Selected,
+    names: Names::Count(false, false),
+    act: Act::Write(Write::Update(false)),
+    excepts: true,
+    ..UNKNOWN
+};
+
+const WRITE_KEY_DATA: Rule = Rule {
+    licence: Licence::EqualId,
+    act: Act::Write(Write::Update(true)),
+    ..WRITE_DATA
+};
+
+// The row of a code.
+#[tactic(auto, using(cells::proofs::Tests::tests), unfolding(crate::specs::Table::rule_of, crate::specs::Table::find, crate::specs::Table::controls, crate::specs::Table::searches, crate::specs::Table::reads, crate::specs::Table::writes))]
 pub fn rule_of(code: u8) -> Rule
     ensures { result ≡ rule_of code }
 {
     match code {
-        0x03 => Rule {
-            act: Act::Control(Control::NoOp),
-            clears: false,
-            ..UNKNOWN
-        },
-        0x04 => Rule {
-            act: Act::Control(Control::Sense),
-            clears: false,
-            ..UNKNOWN
-        },
-        0x07 => seek_row(Seeking::Seek),
-        0x0B => seek_row(Seeking::SeekCylinder),
-        0x1B => seek_row(Seeking::SeekHead),
-        0x1F => Rule {
-            act: Act::Control(Control::SetMask),
-            ..UNKNOWN
-        },
-        0x0F => Rule {
-            licence: Licence::Look,
-            act: Act::Control(Control::SpaceRecord),
-            ..UNKNOWN
-        },
-        _ => search_of(code),
+        0x03 => NO_OP,
+        0x04 => SENSE,
+        0x07 => SEEK,
+        0x0B => SEEK_CYLINDER,
+        0x1B => SEEK_HEAD,
+        0x1F => SET_MASK,
+        0x0F => SPACE_RECORD,
+        0x39 => SEARCH_HOME,
+        0x31 => SEARCH_ID_EQUAL,
+        0x51 => SEARCH_ID_HIGH,
+        0x71 => SEARCH_ID_EQUAL_OR_HIGH,
+        0x29 => SEARCH_KEY_EQUAL,
+        0x49 => SEARCH_KEY_HIGH,
+        0x69 => SEARCH_KEY_EQUAL_OR_HIGH,
+        0x1A => READ_HOME,
+        0x16 => READ_R0,
+        0x12 => READ_COUNT,
+        0x06 => READ_DATA,
+        0x0E => READ_KEY_DATA,
+        0x1E => READ_COUNT_KEY_DATA,
+        0x19 => WRITE_HOME,
+        0x15 => WRITE_R0,
+        0x1D => WRITE_COUNT_KEY_DATA,
+        0x05 => WRITE_DATA,
+        0x0D => WRITE_KEY_DATA,
+        _ => UNKNOWN,
     }
 }
 
