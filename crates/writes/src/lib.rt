@@ -5,7 +5,6 @@ ghost use Rattle.std.specs.Prelude.{◌≡◌, true, false, List, ◌∷◌, ℕ
 ghost use Rattle.cells.specs.Cells.{padded, overlay, marker};
 ghost use Rattle.house_check.specs.Check as House;
 ghost use Rattle.areas.specs.Areas.{home_bytes, r0_first, record_cells, needed};
-ghost use Rattle.hunt.specs.Hunt.{WholeTrack};
 ghost use Rattle.room.specs.Room.{fits};
 ghost use Rattle.recording.specs.Recording.{Lies};
 ghost use Rattle.format.specs.Format.{new_counts, new_record};
@@ -14,6 +13,7 @@ ghost use Rattle.command.specs.Command.{area_if, named, all_recorded, sight, rec
 ghost use Rattle.writes.specs.Writes.{DoesWrite, gone_over, updated, Over};
 
 use areas::{Area, Counts};
+use cells::Track;
 use command::{Job, Task};
 use hunt::Spot;
 use rows::Row;
@@ -25,6 +25,7 @@ const HOME_BYTES: usize = 5;
 const COUNT_SENT: u32 = 8;
 
 // Bytes of the key that are sent.
+#[tactic(auto, unfolding(command::specs::Command::key_sent))]
 fn key_sent(key: bool, n: Counts) -> u8
     ensures { result ≡ key_sent key n }
 {
@@ -32,13 +33,14 @@ fn key_sent(key: bool, n: Counts) -> u8
 }
 
 // Bytes that a new record takes: until its count is sent, 8.
+#[tactic(auto, using(cells::proofs::Tests::tests), unfolding(command::specs::Command::record_takes))]
 fn record_takes(sent: &[u8], n: Counts) -> u32
     ensures { result ≡ record_takes sent.now n }
 {
     if sent.len() < COUNT_SENT as usize {
         return COUNT_SENT;
     }
-    COUNT_SENT + n.kl as u32 + n.dl as u32
+    COUNT_SENT + u32::from(n.kl) + u32::from(n.dl)
 }
 
 // Write R0.
@@ -46,7 +48,7 @@ fn write_r0(flag: u8, j: Job, sent: &[u8]) -> Report
     ensures { (t : List ℕ) → result ≡ report_of (r0_turn (sight (alone t) j sent.now) flag) }
 {
     let n = format::new_counts(flag, sent);
-    if !room::has_room(cells::FIRST_MARKER as u32, areas::record_cells(n)) {
+    if !room::has_room(u32::from(cells::FIRST_MARKER), areas::record_cells(n)) {
         return ending::fails(j, Row::NoRoom);
     }
     let transfer = Transfer::Takes(record_takes(sent, n));
@@ -62,18 +64,18 @@ fn write_after(at: u32, flag: u8, j: Job, sent: &[u8]) -> Report
         return ending::fails(j, Row::NoRoom);
     }
     let p = at as u16;
-    let head = j.task.head;
     let task = Task {
-        head,
         place: p + 1,
         selection: Some(Spot::Marker(p)),
         tally: 0,
+        ..j.task
     };
     let transfer = Transfer::Takes(record_takes(sent, n));
     ending::ended_at(j, task, Ending::Normal, transfer, false)
 }
 
 // Whether an area that is there is all recorded bytes.
+#[tactic(auto, unfolding(command::specs::Command::area_if, command::specs::Command::all_recorded))]
 fn is_recorded_if(track: &[u16], there: bool, a: Area) -> bool
     ensures { result ≡ all_recorded track.now (area_if there a) }
 {
@@ -98,7 +100,7 @@ fn write_over(key: bool, j: Job, track: &[u16]) -> Report
     if !are_recorded(track, key, j.task.place, n) {
         return ending::fails(j, Row::Unreadable);
     }
-    let transfer = Transfer::Takes(key_sent(key, n) as u32 + n.dl as u32);
+    let transfer = Transfer::Takes(u32::from(key_sent(key, n)) + u32::from(n.dl));
     ending::ended(j, ending::ending_of(j), transfer, false)
 }
 
@@ -129,30 +131,29 @@ pub fn write(w: Write, j: Job, sent: &[u8], track: &[u16]) -> Report
 }
 
 // Write HA.
-fn lay_home(sent: &[u8], track: &mut [u16])
-    requires { WholeTrack track.old }
+fn lay_home(sent: &[u8], track: &mut Track)
     ensures { track.new ≡ overlay track.old 0 (to_end 0 (House.cells_with_check (padded home_bytes sent.now))) }
 {
     recording::write_area(track, 0, sent, HOME_BYTES);
-    recording::wipe(track, cells::FIRST_MARKER as usize);
+    recording::wipe(track, usize::from(cells::FIRST_MARKER));
 }
 
 // Write R0, where it has room.
-fn lay_r0(flag: u8, sent: &[u8], track: &mut [u16])
-    requires { WholeTrack track.old × (fits r0_first (record_cells (new_counts flag sent.now)) ≡ true) }
+fn lay_r0(flag: u8, sent: &[u8], track: &mut Track)
+    requires { fits r0_first (record_cells (new_counts flag sent.now)) ≡ true }
     ensures { track.new ≡ overlay track.old r0_first (to_end r0_first (new_record flag sent.now)) }
 {
     let n = format::new_counts(flag, sent);
     format::lay_record(track, cells::FIRST_MARKER, flag, sent, n);
     recording::wipe(
         track,
-        cells::FIRST_MARKER as usize + areas::record_cells(n) as usize,
+        usize::from(cells::FIRST_MARKER) + areas::record_cells(n) as usize,
     );
 }
 
 // Write Count Key Data, from a cell on where it has room.
-fn lay_after(at: u32, flag: u8, sent: &[u8], track: &mut [u16])
-    requires { WholeTrack track.old × (fits at (needed (new_counts flag sent.now)) ≡ true) }
+fn lay_after(at: u32, flag: u8, sent: &[u8], track: &mut Track)
+    requires { fits at (needed (new_counts flag sent.now)) ≡ true }
     ensures { track.new ≡ overlay track.old at (to_end at (marker ∷ new_record flag sent.now)) }
 {
     let n = format::new_counts(flag, sent);
@@ -161,12 +162,13 @@ fn lay_after(at: u32, flag: u8, sent: &[u8], track: &mut [u16])
 }
 
 // An area of n bytes, if there are any, of those sent from one on.
+#[tactic(auto, using(cells::proofs::Tests::tests), unfolding(crate::specs::Writes::gone_over))]
 fn go_over(first: u32, from: u16, n: u16, sent: &[u8], track: &mut [u16])
     requires { 0 < n → Lies track.old first n }
     ensures { track.new ≡ gone_over track.old first sent.now from n }
 {
     if 0 < n {
-        format::lay_area(track, first as usize, n as usize, sent, from, n);
+        format::lay_area(track, first as usize, usize::from(n), sent, from, n);
     }
 }
 
@@ -175,14 +177,14 @@ fn update(key: bool, c: u16, n: Counts, sent: &[u8], track: &mut [u16])
     requires { Over track.old key c n }
     ensures { track.new ≡ updated track.old key c n sent.now }
 {
-    let keyed = key_sent(key, n) as u16;
+    let keyed = u16::from(key_sent(key, n));
     go_over(areas::key_area(c, n).first, 0, keyed, sent, track);
     go_over(areas::data_area(c, n).first, keyed, n.dl, sent, track);
 }
 
 // What a write lays that ends in no Unit Check.
-pub fn lay(w: Write, j: Job, sent: &[u8], track: &mut [u16])
-    requires { WholeTrack track.old × DoesWrite j w × (is_check (write_turn w (sight (alone track.old) j sent.now)).ending ≡ false) }
+pub fn lay(w: Write, j: Job, sent: &[u8], track: &mut Track)
+    requires { DoesWrite j w × (is_check (write_turn w (sight (alone track.old) j sent.now)).ending ≡ false) }
     ensures { track.new ≡ lay (write_turn w (sight (alone track.old) j sent.now)).lays track.old }
 {
     match w {

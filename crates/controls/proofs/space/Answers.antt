@@ -7,7 +7,7 @@ use Rattle.controls.proofs.space.Goals as goal
 
 pub overflow_cast-place : goal.overflow_cast-place
 overflow_cast-place c =
-    let on = space_in _ _ _ c.requires in
+    let on = space_in c.args.track.now c.args.j.position.place c.is_home-home.result (record { long = omega arith }) in
     record { fits = rw c.space_record-place.ensures (lt_of_le_of_lt on (omega arith)) }
 
 pub returns : goal.returns

@@ -1,6 +1,7 @@
 -- The area is written, then gaps to the end.
+use native.Mathlib.Omega.{arith}
 use Rattle.writes.proofs.Calls.{home_formatted}
 use Rattle.writes.proofs.lay_home.Goals as goal
 
 pub returns : goal.returns
-returns c = home_formatted _ _ _ _ c.requires c.write_area.ensures c.wipe.ensures
+returns c = home_formatted _ c.args.track.now _ _ (record { long = omega arith }) c.write_area.ensures (rw c.from.ensures at c.wipe.ensures)

@@ -7,4 +7,4 @@ returns-then-not-are_recorded c = λ v. over_fails _ v _ _ c.requires _ c.are_re
 
 pub returns : goal.returns
 returns c =
-    λ v. over_ends _ v _ _ c.requires _ c.are_recorded.ensures _ _ _ c.if-not-are_recorded.false c.key_sent.ensures c.ending_of.ensures c.ended.ensures
+    λ v. over_ends _ v _ _ c.requires _ c.are_recorded.ensures _ _ _ c.if-not-are_recorded.false c.key_sent.ensures c.ending_of.ensures (rw (c.from.ensures, c.from-2.ensures) at c.ended.ensures)
