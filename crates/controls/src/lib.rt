@@ -123,6 +123,7 @@ fn set_mask(j: Job, byte: u8) -> Report
     masked(j, byte)
 }
 
+#[tactic(auto, using(hunt::proofs::Inside::space_in, crate::proofs::Laws::spaced))]
 fn space(j: Job, track: &Track) -> Report
     ensures { (v : List ℕ) → result ≡ report_of (space_turn (sight (alone track.now) j v)) }
 {
@@ -139,6 +140,7 @@ fn space(j: Job, track: &Track) -> Report
 }
 
 // What a control command reports.
+#[tactic(auto, unfolding(command::specs::Command::control_turn, command::specs::Command::no_op_turn, command::specs::Command::sense_turn, command::specs::Command::sight, command::specs::Command::end_turn, command::specs::Command::end_turn_at, command::specs::Command::sense_bytes, turn::specs::Turn::report_of, turn::specs::Turn::transfer_of, ending::specs::Ending::report_at))]
 pub fn control(g: Shape, k: Control, j: Job, sent: &[u8], track: &Track) -> Report
     ensures { result ≡ report_of (control_turn g k (sight (alone track.now) j sent.now)) }
 {

@@ -92,6 +92,7 @@ fn are_recorded(track: &[u16], key: bool, c: u16, n: Counts) -> bool
 }
 
 // Write Data, and Write Key and Data.
+#[tactic(auto, using(crate::proofs::Report::over_fails, crate::proofs::Report::over_ends))]
 fn write_over(key: bool, j: Job, track: &[u16]) -> Report
     requires { DoesWrite j (Write.Update key) }
     ensures { (v : List ℕ) → result ≡ report_of (write_turn (Write.Update key) (sight (alone track.now) j v)) }
@@ -105,6 +106,7 @@ fn write_over(key: bool, j: Job, track: &[u16]) -> Report
 }
 
 // How a write ends, the bytes that it takes, and what is held then. It lays nothing.
+#[tactic(auto, using(crate::proofs::Report::tells_home, crate::proofs::Report::tells_r0, crate::proofs::Report::tells_record, crate::proofs::Report::tells_over))]
 pub fn write(w: Write, j: Job, sent: &[u8], track: &[u16]) -> Report
     requires { DoesWrite j w }
     ensures { result ≡ report_of (write_turn w (sight (alone track.now) j sent.now)) }
@@ -173,6 +175,7 @@ fn go_over(first: u32, from: u16, n: u16, sent: &[u8], track: &mut [u16])
 }
 
 // Write Data, and Write Key and Data, over areas that lie on the track.
+#[tactic(auto, using(crate::proofs::Calls::key_lies, crate::proofs::Calls::data_lies), unfolding(crate::specs::Writes::updated))]
 fn update(key: bool, c: u16, n: Counts, sent: &[u8], track: &mut [u16])
     requires { Over track.old key c n }
     ensures { track.new ≡ updated track.old key c n sent.now }
@@ -183,6 +186,7 @@ fn update(key: bool, c: u16, n: Counts, sent: &[u8], track: &mut [u16])
 }
 
 // What a write lays that ends in no Unit Check.
+#[tactic(auto, using(crate::proofs::Calls::lays_home, crate::proofs::Calls::r0_room, crate::proofs::Calls::lays_r0, crate::proofs::Calls::record_room, crate::proofs::Calls::lays_record, crate::proofs::Calls::update_over, crate::proofs::Calls::lays_update))]
 pub fn lay(w: Write, j: Job, sent: &[u8], track: &mut Track)
     requires { DoesWrite j w × (is_check (write_turn w (sight (alone track.old) j sent.now)).ending ≡ false) }
     ensures { track.new ≡ lay (write_turn w (sight (alone track.old) j sent.now)).lays track.old }
