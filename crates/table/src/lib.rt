@@ -51,7 +51,7 @@ pub enum Bar {
 
 // Which record it takes: none, the head stays; the home address, or R0, at the index point; the next by Search ID's rule; the next; the record
 // selected, if the command before serves Read Data, or else the next; so, if it serves Read Key and Data and searches by key; the record selected.
-#[derive(Clone, Copy)]
+#[derive(Clone, Copy, PartialEq, Eq)]
 pub enum Aim {
     Stays,
     HomeAddress,
@@ -72,7 +72,7 @@ pub enum Names {
 }
 
 // Whom the record that it leaves selected serves: nobody; Read Data; also Read Key and Data and the searches by key.
-#[derive(Clone, Copy)]
+#[derive(Clone, Copy, PartialEq, Eq)]
 pub enum Serves {
     Nobody,
     Data,
@@ -363,7 +363,7 @@ pub fn is_look(a: Act) -> bool
 pub fn serves_data(s: Serves) -> bool
     ensures { result ≡ serves_data s }
 {
-    !matches!(s, Serves::Nobody)
+    s != Serves::Nobody
 }
 
 // Whether Read Key and Data and the searches by key take it.
@@ -371,7 +371,7 @@ pub fn serves_data(s: Serves) -> bool
 pub fn serves_key(s: Serves) -> bool
     ensures { result ≡ serves_key s }
 {
-    matches!(s, Serves::DataAndKey)
+    s == Serves::DataAndKey
 }
 
 // Whether a command is home address work.
@@ -379,7 +379,7 @@ pub fn serves_key(s: Serves) -> bool
 pub fn is_home(a: Aim) -> bool
     ensures { result ≡ is_home a }
 {
-    matches!(a, Aim::HomeAddress)
+    a == Aim::HomeAddress
 }
 
 // Whether a byte is a mask.
