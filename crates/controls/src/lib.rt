@@ -1,10 +1,9 @@
 // The control commands.
 #![tactic(auto)]
 
-ghost use Rattle.std.specs.Prelude.{◌≡◌, List, ℕ, ◌+◌, ◌-◌, ◌≤◌, min, length, get_or};
-ghost use Rattle.cells.specs.Cells.{be16};
+ghost use Rattle.std.specs.Prelude.{◌≡◌, List, ℕ};
 ghost use Rattle.turn.specs.Turn.{Tracks, alone, report_of, filled};
-ghost use Rattle.command.specs.Command.{sight, sense_bytes, seek_bytes, sought_by, addressed, arrival_turn, seek_turn, masked_turn, mask_turn, space_turn, control_turn};
+ghost use Rattle.command.specs.Command.{sight, sense_bytes, addressed, arrival_turn, masked_turn, mask_turn, space_turn, control_turn};
 
 use cells::Track;
 use command::{Job, Task};
@@ -21,44 +20,21 @@ const SENSE: u32 = 6;
 const SEEK: u32 = 6;
 
 const MASK: u32 = 1;
-// Where BB, CC and HH stand among a seek's bytes.
-const BB: usize = 0;
-
-const CC: usize = 2;
-
-const HH: usize = 4;
-
-// Two of the bytes sent, as one number.
-fn two(sent: &[u8], at: usize) -> u16
-    requires { at + 2 ≤ length sent.now }
-    ensures { result ≡ be16 sent.now at }
+// Where a seek goes by the six bytes sent. Fewer are a bad seek.
+#[tactic(auto, using(cells::proofs::Tests::tests), unfolding(command::specs::Command::addressed, command::specs::Command::sought_by))]
+fn addressed(g: Shape, k: Seeking, c: Cylinder, sent: &[u8]) -> Result<(Cylinder, Head), Row>
+    ensures { result ≡ addressed g k c sent.now }
 {
-    cells::pair(sent[at], sent[at + 1])
-}
-
-// What the six bytes of a seek come to.
-#[tactic(auto, unfolding(command::specs::Command::sought_by))]
-fn sought_by(g: Shape, k: Seeking, c: Cylinder, sent: &[u8]) -> Result<(Cylinder, Head), Row>
-    requires { seek_bytes ≤ length sent.now }
-    ensures { result ≡ sought_by g k c sent.now }
-{
-    let bb = two(sent, BB);
-    let cylinder = Cylinder(two(sent, CC));
-    let head = Head(two(sent, HH));
+    let &[b0, b1, c0, c1, h0, h1, ..] = sent else {
+        return Err(Row::BadSeek);
+    };
+    let bb = cells::pair(b0, b1);
+    let cylinder = Cylinder(cells::pair(c0, c1));
+    let head = Head(cells::pair(h0, h1));
     match k {
         Seeking::Seek | Seeking::SeekCylinder => pack::seek_to(g, bb, cylinder, head),
         Seeking::SeekHead => pack::seek_head(g, c, head),
     }
-}
-
-#[tactic(auto, using(cells::proofs::Tests::tests), unfolding(command::specs::Command::addressed))]
-fn addressed(g: Shape, k: Seeking, c: Cylinder, sent: &[u8]) -> Result<(Cylinder, Head), Row>
-    ensures { result ≡ addressed g k c sent.now }
-{
-    if sent.len() < SEEK as usize {
-        return Err(Row::BadSeek);
-    }
-    sought_by(g, k, c, sent)
 }
 
 // The orders come before the match: taken in its arm, they kept the whole job in memory, and every command paid (DECISIONS 97).
@@ -81,13 +57,6 @@ fn arrives(j: Job, x: Result<(Cylinder, Head), Row>) -> Report
         },
         Err(row) => ending::fails(j, row),
     }
-}
-
-#[tactic(auto, unfolding(command::specs::Command::seek_turn, command::specs::Command::sight))]
-fn seek(g: Shape, k: Seeking, j: Job, sent: &[u8]) -> Report
-    ensures { (t : Tracks) → result ≡ report_of (seek_turn g k (sight t j sent.now)) }
-{
-    arrives(j, addressed(g, k, j.position.cylinder, sent))
 }
 
 #[tactic(auto, unfolding(command::specs::Command::masked_turn, command::specs::Command::sight, turn::specs::Turn::report_of, turn::specs::Turn::transfer_of, turn::specs::Turn::orders_of))]
@@ -139,8 +108,8 @@ fn space(j: Job, track: &Track) -> Report
     ending::ended_at(j, task, Ending::Normal, Transfer::None, false)
 }
 
-// What a control command reports.
-#[tactic(auto, unfolding(command::specs::Command::control_turn, command::specs::Command::no_op_turn, command::specs::Command::sense_turn, command::specs::Command::sight, command::specs::Command::end_turn, command::specs::Command::end_turn_at, command::specs::Command::sense_bytes, turn::specs::Turn::report_of, turn::specs::Turn::transfer_of, ending::specs::Ending::report_at))]
+// What a control command reports. Each arm has arguments of its own, so a table of functions would be no plainer.
+#[tactic(auto, unfolding(command::specs::Command::control_turn, command::specs::Command::no_op_turn, command::specs::Command::sense_turn, command::specs::Command::seek_turn, command::specs::Command::sight, command::specs::Command::end_turn, command::specs::Command::end_turn_at, command::specs::Command::sense_bytes, turn::specs::Turn::report_of, turn::specs::Turn::transfer_of, ending::specs::Ending::report_at))]
 pub fn control(g: Shape, k: Control, j: Job, sent: &[u8], track: &Track) -> Report
     ensures { result ≡ report_of (control_turn g k (sight (alone track.now) j sent.now)) }
 {
@@ -148,7 +117,7 @@ pub fn control(g: Shape, k: Control, j: Job, sent: &[u8], track: &Track) -> Repo
         Control::Unknown => ending::fails(j, Row::UnknownCode),
         Control::NoOp => ending::ended(j, Ending::Normal, Transfer::None, false),
         Control::Sense => ending::ended(j, Ending::Normal, Transfer::Gives(SENSE), false),
-        Control::Seek(s) => seek(g, s, j, sent),
+        Control::Seek(s) => arrives(j, addressed(g, s, j.position.cylinder, sent)),
         Control::SetMask => set_mask(j, cells::byte_at(sent, 0)),
         Control::SpaceRecord => space(j, track),
     }

@@ -23,7 +23,8 @@ fn sense_after(j: Job) -> Sense
     }
 }
 
-// Where the head stands after a job that ends at the place of a task.
+// Where the head stands after a job that ends at the place of a task. A job with that task in it would be one more copy of a job (DECISIONS 97), so here
+// and below the two come apart.
 #[tactic(auto, unfolding(command::specs::Command::position_after, turn::specs::Turn::position_at))]
 pub fn position_after(j: Job, k: Task) -> Position
     ensures { result ≡ position_after j k }

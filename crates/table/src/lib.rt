@@ -41,7 +41,7 @@ pub enum Seeking {
     SeekHead,
 }
 
-// Which bits of the file mask bar it.
+// Which bits of the file mask bar it. Three cases, so no Option.
 #[derive(Clone, Copy)]
 pub enum Bar {
     Nothing,
@@ -63,7 +63,7 @@ pub enum Aim {
     Selected,
 }
 
-// Which areas it reads: none; the home address; of the record its count, with the key or not, with the data or not.
+// Which areas it reads: none; the home address; of the record its count, with the key or not, with the data or not. The model's rows name these flags.
 #[derive(Clone, Copy)]
 pub enum Names {
     Nothing,
@@ -79,6 +79,7 @@ pub enum Serves {
     DataAndKey,
 }
 
+// Six commands, so no Option.
 #[derive(Clone, Copy)]
 pub enum Control {
     Unknown,
@@ -89,7 +90,7 @@ pub enum Control {
     SpaceRecord,
 }
 
-// The last one writes data, with the key or not.
+// The last one writes data, with the key or not, a flag by the model's `Update key`.
 #[derive(Clone, Copy)]
 pub enum Write {
     HomeAddress,
@@ -98,7 +99,8 @@ pub enum Write {
     Update(bool),
 }
 
-// What it does with what it has read: a search compares it with the bytes sent; a read gives its bytes, of a count 8 or none.
+// What it does with what it has read: a search compares it with the bytes sent; a read gives its bytes, of a count 8 or none. Four cases, so no Result;
+// the flag is the model's `Read counted`.
 #[derive(Clone, Copy)]
 pub enum Act {
     Control(Control),
@@ -107,7 +109,7 @@ pub enum Act {
     Write(Write),
 }
 
-// A row of the table. It may leave its record selected; DL = 0 may be Unit Exception; it may clear sense first.
+// A row of the table. It may leave its record selected; DL = 0 may be Unit Exception; it may clear sense first: flags, as the columns of the model.
 #[derive(Clone, Copy)]
 pub struct Rule {
     pub licence: Licence,
@@ -315,7 +317,7 @@ const WRITE_KEY_DATA: Rule = Rule {
     ..WRITE_DATA
 };
 
-// The row of a code.
+// The row of a code, which is a byte of the command word: here the enums are made of it.
 #[tactic(auto, using(cells::proofs::Tests::tests), unfolding(crate::specs::Table::rule_of, crate::specs::Table::find, crate::specs::Table::controls, crate::specs::Table::searches, crate::specs::Table::reads, crate::specs::Table::writes))]
 pub fn rule_of(code: u8) -> Rule
     ensures { result ≡ rule_of code }
@@ -390,7 +392,7 @@ pub fn is_mask(mask: u8) -> bool
     mask / BIT_2 % 0b10 == 0 && mask % BIT_4 == 0
 }
 
-// Whether a mask bars a write.
+// Whether a mask bars a write. Its tests of the two bits have nothing in common with those for a seek, so one function over both would be no plainer.
 pub fn bars_write(mask: u8, write: Writing) -> bool
     ensures { result ≡ bars_write mask write }
 {

@@ -43,6 +43,8 @@ fn record_takes(sent: &[u8], n: Counts) -> u32
     COUNT_SENT + u32::from(n.kl) + u32::from(n.dl)
 }
 
+// The parameters of the functions here are those of the model's definitions, one by one: a struct of them would be taken apart in each clause.
+
 // Write R0.
 fn write_r0(flag: u8, j: Job, sent: &[u8]) -> Report
     ensures { (t : List ℕ) → result ≡ report_of (r0_turn (sight (alone t) j sent.now) flag) }
@@ -105,7 +107,8 @@ fn write_over(key: bool, j: Job, track: &[u16]) -> Report
     ending::ended(j, ending::ending_of(j), transfer, false)
 }
 
-// How a write ends, the bytes that it takes, and what is held then. It lays nothing.
+// How a write ends, the bytes that it takes, and what is held then. It lays nothing. Each arm has arguments of its own, so a table of functions would be
+// no plainer; so in `lay`.
 #[tactic(auto, using(crate::proofs::Report::tells_home, crate::proofs::Report::tells_r0, crate::proofs::Report::tells_record, crate::proofs::Report::tells_over))]
 pub fn write(w: Write, j: Job, sent: &[u8], track: &[u16]) -> Report
     requires { DoesWrite j w }
