@@ -20,6 +20,7 @@ const SENSE: u32 = 6;
 const SEEK: u32 = 6;
 
 const MASK: u32 = 1;
+
 // Where a seek goes by the six bytes sent. Fewer are a bad seek.
 #[tactic(auto, using(cells::proofs::Tests::tests), unfolding(command::specs::Command::addressed, command::specs::Command::sought_by))]
 fn addressed(g: Shape, k: Seeking, c: Cylinder, sent: &[u8]) -> Result<(Cylinder, Head), Row>

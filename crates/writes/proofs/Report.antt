@@ -65,19 +65,7 @@ module _ (t : List ℕ) (j : Job) (v : List ℕ) where
 
 -- ---- an update: whether the areas that it goes over are byte cells
 
-both_true : (b : Bool) → both b true ≡ b
-both_true true = refl
-both_true false = refl
-
 module _ (t : List ℕ) where
-  pub not_there : (b : Bool) (a : Area) → b ≡ false → true ≡ all_recorded t (area_if b a)
-  unfolding all_recorded area_if
-  not_there b a e = ap (λ (z : Bool). all_recorded t (area_if z a)) (sym e)
-
-  pub area_there : (b : Bool) (a : Area) (r : Bool) → b ≡ true → r ≡ recorded t a → r ≡ all_recorded t (area_if b a)
-  unfolding all_recorded area_if
-  area_there b a r e f = f ∙ sym (both_true (recorded t a)) ∙ ap (λ (z : Bool). all_recorded t (area_if z a)) (sym e)
-
   recorded-two : (l m : List Area) → all_recorded t (l ++ m) ≡ both (all_recorded t l) (all_recorded t m)
   unfolding all_recorded
   recorded-two [] m = refl
