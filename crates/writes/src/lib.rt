@@ -57,7 +57,7 @@ fn write_r0(flag: u8, j: Job, sent: &[u8]) -> Report
     ending::ended(j, Ending::Normal, transfer, false)
 }
 
-// Write Count Key Data, from a cell on, which can lie far past the track.
+// Write Count Key Data, from a cell on, which can lie far past the track: its task can be made only once there is room, so Write R0 is no case of this.
 fn write_after(at: u32, flag: u8, j: Job, sent: &[u8]) -> Report
     ensures { (t : List ℕ) → result ≡ report_of (record_turn (sight (alone t) j sent.now) at flag) }
 {
@@ -156,7 +156,7 @@ fn lay_r0(flag: u8, sent: &[u8], track: &mut Track)
     );
 }
 
-// Write Count Key Data, from a cell on where it has room.
+// Write Count Key Data, from a cell on where it has room. R0 has no marker, so only the counts and the gaps are common to both.
 fn lay_after(at: u32, flag: u8, sent: &[u8], track: &mut Track)
     requires { fits at (needed (new_counts flag sent.now)) ≡ true }
     ensures { track.new ≡ overlay track.old at (to_end at (marker ∷ new_record flag sent.now)) }
