@@ -21,7 +21,7 @@ const SEEK: u32 = 6;
 
 const MASK: u32 = 1;
 
-// Where a seek goes by the six bytes sent. Fewer are a bad seek.
+// Where a seek goes by the six bytes sent. Fewer are a bad seek. The two calls have arguments of their own, so a function for either is no plainer.
 #[tactic(auto, using(cells::proofs::Tests::tests), unfolding(command::specs::Command::addressed, command::specs::Command::sought_by))]
 fn addressed(g: Shape, k: Seeking, c: Cylinder, sent: &[u8]) -> Result<(Cylinder, Head), Row>
     ensures { result ≡ addressed g k c sent.now }

@@ -51,7 +51,7 @@ pub fn orders_after(j: Job, k: Task, whole: bool) -> Orders
     }
 }
 
-// A job ends at the place of a task.
+// A job ends at the place of a task. Whether its search was equal over the whole field is found after the job is made, so it is no part of it.
 #[tactic(auto, unfolding(crate::specs::Ending::report_at))]
 pub fn ended_at(j: Job, k: Task, ending: Ending, transfer: Transfer, whole: bool) -> Report
     ensures { result ≡ report_at j k ending transfer whole }

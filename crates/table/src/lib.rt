@@ -352,7 +352,7 @@ pub fn rule_of(code: u8) -> Rule
     }
 }
 
-// Whether a command is a search or a read.
+// Whether a command is a search or a read, with anything in them, for which equality would not do.
 #[tactic(auto, unfolding(crate::specs::Table::looks))]
 pub fn is_look(a: Act) -> bool
     ensures { result ≡ looks a }
@@ -368,7 +368,7 @@ pub fn serves_data(s: Serves) -> bool
     s != Serves::Nobody
 }
 
-// Whether Read Key and Data and the searches by key take it.
+// Whether Read Key and Data and the searches by key take it. Like `is_home` but for the type, which a generic function would only hide.
 #[tactic(auto, unfolding(crate::specs::Table::serves_key))]
 pub fn serves_key(s: Serves) -> bool
     ensures { result ≡ serves_key s }

@@ -20,7 +20,7 @@ use rows::Row;
 use table::Write;
 use turn::{Ending, Report, Transfer};
 
-const HOME_BYTES: usize = 5;
+const HOME_BYTES: u8 = 5;
 // Bytes of a count that are sent.
 const COUNT_SENT: u32 = 8;
 
@@ -43,7 +43,8 @@ fn record_takes(sent: &[u8], n: Counts) -> u32
     COUNT_SENT + u32::from(n.kl) + u32::from(n.dl)
 }
 
-// The parameters of the functions here are those of the model's definitions, one by one: a struct of them would be taken apart in each clause.
+// The parameters of the functions here are those of the model's definitions, one by one: a struct of them would be taken apart in each clause. A cell's
+// number goes beside the track: cells before it are read or stay, and `format` takes the track whole.
 
 // Write R0.
 fn write_r0(flag: u8, j: Job, sent: &[u8]) -> Report
@@ -65,6 +66,7 @@ fn write_after(at: u32, flag: u8, j: Job, sent: &[u8]) -> Report
     if !room::has_room(at, areas::cells_needed(n)) {
         return ending::fails(j, Row::NoRoom);
     }
+    // There is room, so it lies on the track: `try_from` would add a refusal that never comes.
     let p = at as u16;
     let task = Task {
         place: p + 1,
@@ -118,7 +120,7 @@ pub fn write(w: Write, j: Job, sent: &[u8], track: &[u16]) -> Report
         Write::HomeAddress => ending::ended(
             j,
             Ending::Normal,
-            Transfer::Takes(HOME_BYTES as u32),
+            Transfer::Takes(u32::from(HOME_BYTES)),
             false,
         ),
         Write::R0 => {
@@ -139,7 +141,7 @@ pub fn write(w: Write, j: Job, sent: &[u8], track: &[u16]) -> Report
 fn lay_home(sent: &[u8], track: &mut Track)
     ensures { track.new ≡ overlay track.old 0 (to_end 0 (House.cells_with_check (padded home_bytes sent.now))) }
 {
-    recording::write_area(track, 0, sent, HOME_BYTES);
+    recording::write_area(track, 0, sent, usize::from(HOME_BYTES));
     recording::wipe(track, usize::from(cells::FIRST_MARKER));
 }
 
@@ -162,6 +164,7 @@ fn lay_after(at: u32, flag: u8, sent: &[u8], track: &mut Track)
     ensures { track.new ≡ overlay track.old at (to_end at (marker ∷ new_record flag sent.now)) }
 {
     let n = format::new_counts(flag, sent);
+    // It lies on the track, as above.
     format::lay_marked(track, at as u16, flag, sent, n);
     recording::wipe(track, at as usize + areas::cells_needed(n) as usize);
 }
