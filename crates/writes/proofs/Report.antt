@@ -91,8 +91,8 @@ module _ (t : List ℕ) (key : Bool) (c : ℕ) (n : Counts) (s : ℕ) (q : s ≡
   pub key_bad : x ≡ false → false ≡ all_recorded t (named c key true n)
   key_bad e = sym (key_part ∙ ap (λ (z : Bool). both z (all_recorded t (area_if (ltb 0 n.dl) (data_area c n)))) e)
 
-  pub both-recorded : (d : Area) (y : Bool) → x ≡ true → d ≡ data_area c n → y ≡ all_recorded t (area_if (ltb 0 n.dl) d) → y ≡ all_recorded t (named c key true n)
-  both-recorded d y e o g =
+  pub both_recorded : (d : Area) (y : Bool) → x ≡ true → d ≡ data_area c n → y ≡ all_recorded t (area_if (ltb 0 n.dl) d) → y ≡ all_recorded t (named c key true n)
+  both_recorded d y e o g =
       g ∙ ap (λ (a : Area). all_recorded t (area_if (ltb 0 n.dl) a)) o
       ∙ sym (key_part ∙ ap (λ (z : Bool). both z (all_recorded t (area_if (ltb 0 n.dl) (data_area c n)))) e)
 

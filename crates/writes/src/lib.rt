@@ -87,6 +87,7 @@ fn is_recorded_if(track: &[u16], there: bool, a: Area) -> bool
 }
 
 // Whether the areas that an update goes over are.
+#[tactic(auto, using(crate::proofs::Report::key_bad, crate::proofs::Report::both_recorded))]
 fn are_recorded(track: &[u16], key: bool, c: u16, n: Counts) -> bool
     ensures { result ≡ all_recorded track.now (named c key true n) }
 {
@@ -138,6 +139,7 @@ pub fn write(w: Write, j: Job, sent: &[u8], track: &[u16]) -> Report
 }
 
 // Write HA.
+#[tactic(auto, using(crate::proofs::Calls::home_formatted))]
 fn lay_home(sent: &[u8], track: &mut Track)
     ensures { track.new ≡ overlay track.old 0 (to_end 0 (House.cells_with_check (padded home_bytes sent.now))) }
 {
@@ -146,6 +148,7 @@ fn lay_home(sent: &[u8], track: &mut Track)
 }
 
 // Write R0, where it has room.
+#[tactic(auto, using(crate::proofs::Calls::r0_ends, crate::proofs::Calls::r0_formatted))]
 fn lay_r0(flag: u8, sent: &[u8], track: &mut Track)
     requires { fits r0_first (record_cells (new_counts flag sent.now)) ≡ true }
     ensures { track.new ≡ overlay track.old r0_first (to_end r0_first (new_record flag sent.now)) }
@@ -159,6 +162,7 @@ fn lay_r0(flag: u8, sent: &[u8], track: &mut Track)
 }
 
 // Write Count Key Data, from a cell on where it has room. R0 has no marker, so only the counts and the gaps are common to both.
+#[tactic(auto, using(crate::proofs::Calls::record_in, crate::proofs::Calls::record_ends, crate::proofs::Calls::record_formatted))]
 fn lay_after(at: u32, flag: u8, sent: &[u8], track: &mut Track)
     requires { fits at (needed (new_counts flag sent.now)) ≡ true }
     ensures { track.new ≡ overlay track.old at (to_end at (marker ∷ new_record flag sent.now)) }
