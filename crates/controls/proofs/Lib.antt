@@ -1,2 +1,2 @@
--- Laws of Set File Mask, of Space Record, and of the bytes that Sense gives.
+-- The law of Space Record.
 pub mod Laws

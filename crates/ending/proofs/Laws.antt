@@ -7,7 +7,7 @@ use Rattle.held.specs.declared.{Position.Position, Orders.Orders}
 use Rattle.turn.specs.declared.{Ending.Ending}
 use Rattle.turn.specs.Turn.{TrackArea, Piece, Moves, transfer_of, report_of, check_turn}
 use Rattle.command.specs.declared.{Task.Task}
-use Rattle.command.specs.Command.{Sight, fail_turn, end_turn_at, end_turn}
+use Rattle.command.specs.Command.{Sight, end_turn_at, end_turn}
 use Rattle.ending.specs.Ending.{report_at, check_report}
 
 module _ (x : Sight) (e : Ending) (m : Moves) (l : List Piece) (whole : Bool) where
@@ -22,7 +22,3 @@ module _ (x : Sight) (e : Ending) (m : Moves) (l : List Piece) (whole : Bool) wh
 pub failed : (s : Position) (o : Orders) (l : List TrackArea) (row : Row) → report_of (check_turn s o l row) ≡ check_report s o row
 unfolding report_of check_turn check_report transfer_of
 failed s o l row = refl
-
-pub failed_by : (x : Sight) (row : Row) → report_of (fail_turn x row) ≡ check_report x.job.position x.job.orders row
-unfolding fail_turn
-failed_by x row = failed x.job.position x.job.orders x.reads row

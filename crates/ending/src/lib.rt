@@ -12,58 +12,55 @@ use rows::{Row, Sense};
 use turn::{Ending, Report, Transfer};
 
 // Commands but Sense and No-op clear sense first.
+#[tactic(auto, unfolding(command::specs::Command::sense_after))]
 fn sense_after(j: Job) -> Sense
     ensures { result ≡ sense_after j }
 {
     if j.clears {
-        return Sense { byte0: 0, byte1: 0 };
+        Sense { byte0: 0, byte1: 0 }
+    } else {
+        j.position.sense
     }
-    let position = j.position;
-    position.sense
 }
 
-// Where the head stands after a job that ends at the place of a task.
+// Where the head stands after a job that ends at the place of a task. A job with that task in it would be one more copy of a job (DECISIONS 97), so here
+// and below the two come apart.
+#[tactic(auto, unfolding(command::specs::Command::position_after, turn::specs::Turn::position_at))]
 pub fn position_after(j: Job, k: Task) -> Position
     ensures { result ≡ position_after j k }
 {
-    let sense = sense_after(j);
-    let cylinder = j.position.cylinder;
-    let head = k.head;
     Position {
-        cylinder,
-        head,
+        head: k.head,
         place: k.place,
-        sense,
+        sense: sense_after(j),
+        ..j.position
     }
 }
 
 // What the next command finds then.
+#[tactic(auto, unfolding(command::specs::Command::orders_after, turn::specs::Turn::after, turn::specs::Turn::orders_of))]
 pub fn orders_after(j: Job, k: Task, whole: bool) -> Orders
     ensures { result ≡ orders_after j k whole }
 {
-    let orders = j.orders;
-    let selection = k.selection;
     Orders {
-        mask: orders.mask,
-        mask_set: orders.mask_set,
         before: j.code,
         whole,
         tally: k.tally,
-        selection,
+        selection: k.selection,
+        ..j.orders
     }
 }
 
-// A job ends at the place of a task.
+// A job ends at the place of a task. Whether its search was equal over the whole field is found after the job is made, so it is no part of it.
+#[tactic(auto, unfolding(crate::specs::Ending::report_at))]
 pub fn ended_at(j: Job, k: Task, ending: Ending, transfer: Transfer, whole: bool) -> Report
     ensures { result ≡ report_at j k ending transfer whole }
 {
-    let position = position_after(j, k);
-    let orders = orders_after(j, k, whole);
     Report {
         ending,
         transfer,
-        position,
-        orders,
+        position: position_after(j, k),
+        orders: orders_after(j, k, whole),
     }
 }
 
@@ -75,38 +72,34 @@ pub fn ended(j: Job, ending: Ending, transfer: Transfer, whole: bool) -> Report
 }
 
 // DL = 0 is Unit Exception, where the row says so.
+#[tactic(auto, using(cells::proofs::Tests::tests), unfolding(command::specs::Command::ending_of))]
 pub fn ending_of(j: Job) -> Ending
     ensures { result ≡ ending_of j }
 {
-    if j.excepts {
-        if j.counts.dl == 0 {
-            return Ending::Exception;
-        }
+    if j.excepts && j.counts.dl == 0 {
+        return Ending::Exception;
     }
     Ending::Normal
 }
 
 // Unit Check for a row of the table.
+#[tactic(auto, unfolding(crate::specs::Ending::check_report, turn::specs::Turn::with_sense, turn::specs::Turn::position_at))]
 pub fn failed(s: Position, o: Orders, row: Row) -> Report
     ensures { result ≡ check_report s o row }
 {
-    let sense = rows::sense_of(row);
-    let cylinder = s.cylinder;
-    let head = s.head;
     Report {
         ending: Ending::Check(row),
         transfer: Transfer::Takes(rows::row_takes(row)),
         position: Position {
-            cylinder,
-            head,
-            place: s.place,
-            sense,
+            sense: rows::sense_of(row),
+            ..s
         },
         orders: o,
     }
 }
 
 // Unit Check of a job.
+#[tactic(auto, unfolding(command::specs::Command::sight, command::specs::Command::fail_turn, turn::specs::Turn::check_turn, turn::specs::Turn::report_of, turn::specs::Turn::transfer_of, crate::specs::Ending::check_report))]
 pub fn fails(j: Job, row: Row) -> Report
     ensures { (t : Tracks) (v : List ℕ) → result ≡ report_of (fail_turn (sight t j v) row) }
 {

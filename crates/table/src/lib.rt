@@ -2,7 +2,7 @@
 #![tactic(auto)]
 
 ghost use Rattle.std.specs.Prelude.{◌≡◌, true, false};
-ghost use Rattle.table.specs.Table.{plain_row, look_row, seek_row, search_row, read_row, write_row, count, count_key, selects, selects_none, accepts, excepts, searches, reads, writes, unknown, find, rule_of, looks, serves_data, serves_key, is_home, is_mask, bars_write, bars_seek};
+ghost use Rattle.table.specs.Table.{rule_of, looks, serves_data, serves_key, is_home, is_mask, bars_write, bars_seek};
 ghost use Rattle.table.specs.declared.{Licence.Licence, Writing.Writing, Bar.Bar, Act.Act, Write.Write, Aim.Aim, Names.Names, Serves.Serves};
 
 // What satisfies a search: equal, the track's higher, or either.
@@ -41,7 +41,7 @@ pub enum Seeking {
     SeekHead,
 }
 
-// Which bits of the file mask bar it.
+// Which bits of the file mask bar it. Three cases, so no Option.
 #[derive(Clone, Copy)]
 pub enum Bar {
     Nothing,
@@ -51,7 +51,7 @@ pub enum Bar {
 
 // Which record it takes: none, the head stays; the home address, or R0, at the index point; the next by Search ID's rule; the next; the record
 // selected, if the command before serves Read Data, or else the next; so, if it serves Read Key and Data and searches by key; the record selected.
-#[derive(Clone, Copy)]
+#[derive(Clone, Copy, PartialEq, Eq)]
 pub enum Aim {
     Stays,
     HomeAddress,
@@ -63,7 +63,7 @@ pub enum Aim {
     Selected,
 }
 
-// Which areas it reads: none; the home address; of the record its count, with the key or not, with the data or not.
+// Which areas it reads: none; the home address; of the record its count, with the key or not, with the data or not. The model's rows name these flags.
 #[derive(Clone, Copy)]
 pub enum Names {
     Nothing,
@@ -72,13 +72,14 @@ pub enum Names {
 }
 
 // Whom the record that it leaves selected serves: nobody; Read Data; also Read Key and Data and the searches by key.
-#[derive(Clone, Copy)]
+#[derive(Clone, Copy, PartialEq, Eq)]
 pub enum Serves {
     Nobody,
     Data,
     DataAndKey,
 }
 
+// Six commands, so no Option.
 #[derive(Clone, Copy)]
 pub enum Control {
     Unknown,
@@ -89,7 +90,7 @@ pub enum Control {
     SpaceRecord,
 }
 
-// The last one writes data, with the key or not.
+// The last one writes data, with the key or not, a flag by the model's `Update key`.
 #[derive(Clone, Copy)]
 pub enum Write {
     HomeAddress,
@@ -98,7 +99,8 @@ pub enum Write {
     Update(bool),
 }
 
-// What it does with what it has read: a search compares it with the bytes sent; a read gives its bytes, of a count 8 or none.
+// What it does with what it has read: a search compares it with the bytes sent; a read gives its bytes, of a count 8 or none. Four cases, so no Result;
+// the flag is the model's `Read counted`.
 #[derive(Clone, Copy)]
 pub enum Act {
     Control(Control),
@@ -107,7 +109,7 @@ pub enum Act {
     Write(Write),
 }
 
-// A row of the table. It may leave its record selected; DL = 0 may be Unit Exception; it may clear sense first.
+// A row of the table. It may leave its record selected; DL = 0 may be Unit Exception; it may clear sense first: flags, as the columns of the model.
 #[derive(Clone, Copy)]
 pub struct Rule {
     pub licence: Licence,
@@ -121,15 +123,6 @@ pub struct Rule {
     pub clears: bool,
 }
 
-// The record is left selected, or is not; DL = 0 is Unit Exception, or may be.
-const SELECTS: bool = true;
-
-const SELECTS_NONE: bool = false;
-
-const EXCEPTS: bool = true;
-
-const ACCEPTS: bool = false;
-
 // Of a mask the rightmost of bits 0-1, bit 2, and the rightmost of bits 3-4; bits 5 to 7 are below.
 const BIT_1: u8 = 0x40;
 
@@ -137,248 +130,269 @@ const BIT_2: u8 = 0x20;
 
 const BIT_4: u8 = 0x08;
 
-// Control: sense is cleared first, or is not.
-fn plain_row(l: Licence, b: Bar, a: Control, clears: bool) -> Rule
-    ensures { result ≡ plain_row l b a clears }
-{
-    Rule {
-        licence: l,
-        bar: b,
-        aim: Aim::Stays,
-        names: Names::Nothing,
-        act: Act::Control(a),
-        selects: SELECTS_NONE,
-        serves: Serves::Nobody,
-        excepts: ACCEPTS,
-        clears,
-    }
-}
+// An unknown code's row, from which every other differs in the columns that it names.
+const UNKNOWN: Rule = Rule {
+    licence: Licence::Any,
+    bar: Bar::Nothing,
+    aim: Aim::Stays,
+    names: Names::Nothing,
+    act: Act::Control(Control::Unknown),
+    selects: false,
+    serves: Serves::Nobody,
+    excepts: false,
+    clears: true,
+};
 
-fn seek_row(k: Seeking) -> Rule
-    ensures { result ≡ seek_row k }
-{
-    plain_row(Licence::Any, Bar::Seeks(k), Control::Seek(k), true)
-}
+// The control commands. No-op and Sense leave sense as it is.
+const NO_OP: Rule = Rule {
+    act: Act::Control(Control::NoOp),
+    clears: false,
+    ..UNKNOWN
+};
 
-// A search or a read that leaves its record selected: its count is read, with the key or not.
-fn selecting_row(a: Aim, key: bool, act: Act, v: Serves) -> Rule
-    ensures { result ≡ look_row a (Names.Count key false) act selects v accepts }
-{
-    Rule {
-        licence: Licence::Any,
-        bar: Bar::Nothing,
-        aim: a,
-        names: Names::Count(key, false),
-        act,
-        selects: SELECTS,
-        serves: v,
-        excepts: ACCEPTS,
-        clears: true,
-    }
-}
+const SENSE: Rule = Rule {
+    act: Act::Control(Control::Sense),
+    ..NO_OP
+};
 
-// A search or a read that does not.
-fn unselecting_row(a: Aim, n: Names, act: Act, x: bool) -> Rule
-    ensures { result ≡ look_row a n act selects_none Serves.Nobody x }
-{
-    Rule {
-        licence: Licence::Any,
-        bar: Bar::Nothing,
-        aim: a,
-        names: n,
-        act,
-        selects: SELECTS_NONE,
-        serves: Serves::Nobody,
-        excepts: x,
-        clears: true,
-    }
-}
+const SEEK: Rule = Rule {
+    bar: Bar::Seeks(Seeking::Seek),
+    act: Act::Control(Control::Seek(Seeking::Seek)),
+    ..UNKNOWN
+};
 
-fn write_row(l: Licence, b: Writing, a: Aim, n: Names, w: Write, s: bool, x: bool) -> Rule
-    ensures { result ≡ write_row l b a n w s x }
-{
-    Rule {
-        licence: l,
-        bar: Bar::Writes(b),
-        aim: a,
-        names: n,
-        act: Act::Write(w),
-        selects: s,
-        serves: Serves::Nobody,
-        excepts: x,
-        clears: true,
-    }
-}
+const SEEK_CYLINDER: Rule = Rule {
+    bar: Bar::Seeks(Seeking::SeekCylinder),
+    act: Act::Control(Control::Seek(Seeking::SeekCylinder)),
+    ..UNKNOWN
+};
 
-// Write Data and Write Key and Data.
-fn update_row(l: Licence, key: bool) -> Rule
-    ensures { result ≡ write_row l Writing.Update Aim.Selected count (Write.Update key) selects_none excepts }
-{
-    write_row(
-        l,
-        Writing::Update,
-        Aim::Selected,
-        Names::Count(false, false),
-        Write::Update(key),
-        SELECTS_NONE,
-        EXCEPTS,
-    )
-}
+const SEEK_HEAD: Rule = Rule {
+    bar: Bar::Seeks(Seeking::SeekHead),
+    act: Act::Control(Control::Seek(Seeking::SeekHead)),
+    ..UNKNOWN
+};
 
-fn write_of(code: u8) -> Rule
-    ensures { result ≡ find code writes unknown }
-{
-    match code {
-        0x19 => write_row(
-            Licence::Any,
-            Writing::HomeOrR0,
-            Aim::HomeAddress,
-            Names::Nothing,
-            Write::HomeAddress,
-            SELECTS_NONE,
-            ACCEPTS,
-        ),
-        0x15 => write_row(
-            Licence::HomeAddress,
-            Writing::HomeOrR0,
-            Aim::R0,
-            Names::HomeAddress,
-            Write::R0,
-            SELECTS,
-            ACCEPTS,
-        ),
-        0x1D => write_row(
-            Licence::WrittenOrEqual,
-            Writing::CountKeyData,
-            Aim::Selected,
-            Names::Count(false, false),
-            Write::CountKeyData,
-            SELECTS,
-            ACCEPTS,
-        ),
-        0x05 => update_row(Licence::EqualIdOrKey, false),
-        0x0D => update_row(Licence::EqualId, true),
-        _ => plain_row(Licence::Any, Bar::Nothing, Control::Unknown, true),
-    }
-}
+const SET_MASK: Rule = Rule {
+    act: Act::Control(Control::SetMask),
+    ..UNKNOWN
+};
 
-// A search or a read of the home address.
-fn home_row(act: Act) -> Rule
-    ensures { result ≡ look_row Aim.HomeAddress Names.HomeAddress act selects_none Serves.Nobody accepts }
-{
-    unselecting_row(Aim::HomeAddress, Names::HomeAddress, act, ACCEPTS)
-}
+const SPACE_RECORD: Rule = Rule {
+    licence: Licence::Look,
+    act: Act::Control(Control::SpaceRecord),
+    ..UNKNOWN
+};
 
-// A read of a record's data, with the key or not; a count's 8 bytes move, or do not.
-fn data_row(a: Aim, key: bool, counted: bool) -> Rule
-    ensures { result ≡ read_row a (Names.Count key true) counted selects_none Serves.Nobody excepts }
-{
-    unselecting_row(a, Names::Count(key, true), Act::Read(counted), EXCEPTS)
-}
+// The searches. By ID and by key the record is left selected.
+const SEARCH_HOME: Rule = Rule {
+    aim: Aim::HomeAddress,
+    names: Names::HomeAddress,
+    act: Act::Search(How::IfEqual),
+    ..UNKNOWN
+};
 
-fn read_of(code: u8) -> Rule
-    ensures { result ≡ find code reads (find code writes unknown) }
-{
-    match code {
-        0x1A => home_row(Act::Read(false)),
-        0x16 => data_row(Aim::R0, true, true),
-        0x12 => selecting_row(Aim::Next, false, Act::Read(true), Serves::DataAndKey),
-        0x06 => data_row(Aim::NextForData, false, false),
-        0x0E => data_row(Aim::NextForKey, true, false),
-        0x1E => data_row(Aim::Next, true, true),
-        _ => write_of(code),
-    }
-}
+const SEARCH_ID_EQUAL: Rule = Rule {
+    aim: Aim::NextId,
+    names: Names::Count(false, false),
+    act: Act::Search(How::IfEqual),
+    selects: true,
+    serves: Serves::DataAndKey,
+    ..UNKNOWN
+};
 
-fn search_id_row(h: How) -> Rule
-    ensures { result ≡ search_row Aim.NextId count selects Serves.DataAndKey h }
-{
-    selecting_row(Aim::NextId, false, Act::Search(h), Serves::DataAndKey)
-}
+const SEARCH_ID_HIGH: Rule = Rule {
+    act: Act::Search(How::IfHigh),
+    ..SEARCH_ID_EQUAL
+};
 
-fn search_key_row(h: How) -> Rule
-    ensures { result ≡ search_row Aim.NextForKey count_key selects Serves.Data h }
-{
-    selecting_row(Aim::NextForKey, true, Act::Search(h), Serves::Data)
-}
+const SEARCH_ID_EQUAL_OR_HIGH: Rule = Rule {
+    act: Act::Search(How::IfEqualOrHigh),
+    ..SEARCH_ID_EQUAL
+};
 
-fn search_of(code: u8) -> Rule
-    ensures { result ≡ find code searches (find code reads (find code writes unknown)) }
-{
-    match code {
-        0x39 => home_row(Act::Search(How::IfEqual)),
-        0x31 => search_id_row(How::IfEqual),
-        0x51 => search_id_row(How::IfHigh),
-        0x71 => search_id_row(How::IfEqualOrHigh),
-        0x29 => search_key_row(How::IfEqual),
-        0x49 => search_key_row(How::IfHigh),
-        0x69 => search_key_row(How::IfEqualOrHigh),
-        _ => read_of(code),
-    }
-}
+const SEARCH_KEY_EQUAL: Rule = Rule {
+    aim: Aim::NextForKey,
+    names: Names::Count(true, false),
+    act: Act::Search(How::IfEqual),
+    selects: true,
+    serves: Serves::Data,
+    ..UNKNOWN
+};
 
-// The row of a code.
+const SEARCH_KEY_HIGH: Rule = Rule {
+    act: Act::Search(How::IfHigh),
+    ..SEARCH_KEY_EQUAL
+};
+
+const SEARCH_KEY_EQUAL_OR_HIGH: Rule = Rule {
+    act: Act::Search(How::IfEqualOrHigh),
+    ..SEARCH_KEY_EQUAL
+};
+
+// The reads.
+const READ_HOME: Rule = Rule {
+    aim: Aim::HomeAddress,
+    names: Names::HomeAddress,
+    act: Act::Read(false),
+    ..UNKNOWN
+};
+
+const READ_R0: Rule = Rule {
+    aim: Aim::R0,
+    names: Names::Count(true, true),
+    act: Act::Read(true),
+    excepts: true,
+    ..UNKNOWN
+};
+
+const READ_COUNT: Rule = Rule {
+    aim: Aim::Next,
+    names: Names::Count(false, false),
+    act: Act::Read(true),
+    selects: true,
+    serves: Serves::DataAndKey,
+    ..UNKNOWN
+};
+
+const READ_DATA: Rule = Rule {
+    aim: Aim::NextForData,
+    names: Names::Count(false, true),
+    act: Act::Read(false),
+    ..READ_R0
+};
+
+const READ_KEY_DATA: Rule = Rule {
+    aim: Aim::NextForKey,
+    act: Act::Read(false),
+    ..READ_R0
+};
+
+const READ_COUNT_KEY_DATA: Rule = Rule {
+    aim: Aim::Next,
+    ..READ_R0
+};
+
+// The writes.
+const WRITE_HOME: Rule = Rule {
+    bar: Bar::Writes(Writing::HomeOrR0),
+    aim: Aim::HomeAddress,
+    act: Act::Write(Write::HomeAddress),
+    ..UNKNOWN
+};
+
+const WRITE_R0: Rule = Rule {
+    licence: Licence::HomeAddress,
+    bar: Bar::Writes(Writing::HomeOrR0),
+    aim: Aim::R0,
+    names: Names::HomeAddress,
+    act: Act::Write(Write::R0),
+    selects: true,
+    ..UNKNOWN
+};
+
+const WRITE_COUNT_KEY_DATA: Rule = Rule {
+    licence: Licence::WrittenOrEqual,
+    bar: Bar::Writes(Writing::CountKeyData),
+    aim: Aim::Selected,
+    names: Names::Count(false, false),
+    act: Act::Write(Write::CountKeyData),
+    selects: true,
+    ..UNKNOWN
+};
+
+const WRITE_DATA: Rule = Rule {
+    licence: Licence::EqualIdOrKey,
+    bar: Bar::Writes(Writing::Update),
+    aim: Aim::Selected,
+    names: Names::Count(false, false),
+    act: Act::Write(Write::Update(false)),
+    excepts: true,
+    ..UNKNOWN
+};
+
+const WRITE_KEY_DATA: Rule = Rule {
+    licence: Licence::EqualId,
+    act: Act::Write(Write::Update(true)),
+    ..WRITE_DATA
+};
+
+// The row of a code, which is a byte of the command word: here the enums are made of it.
+#[tactic(auto, using(cells::proofs::Tests::tests), unfolding(crate::specs::Table::rule_of, crate::specs::Table::find, crate::specs::Table::controls, crate::specs::Table::searches, crate::specs::Table::reads, crate::specs::Table::writes))]
 pub fn rule_of(code: u8) -> Rule
     ensures { result ≡ rule_of code }
 {
     match code {
-        0x03 => plain_row(Licence::Any, Bar::Nothing, Control::NoOp, false),
-        0x04 => plain_row(Licence::Any, Bar::Nothing, Control::Sense, false),
-        0x07 => seek_row(Seeking::Seek),
-        0x0B => seek_row(Seeking::SeekCylinder),
-        0x1B => seek_row(Seeking::SeekHead),
-        0x1F => plain_row(Licence::Any, Bar::Nothing, Control::SetMask, true),
-        0x0F => plain_row(Licence::Look, Bar::Nothing, Control::SpaceRecord, true),
-        _ => search_of(code),
+        0x03 => NO_OP,
+        0x04 => SENSE,
+        0x07 => SEEK,
+        0x0B => SEEK_CYLINDER,
+        0x1B => SEEK_HEAD,
+        0x1F => SET_MASK,
+        0x0F => SPACE_RECORD,
+        0x39 => SEARCH_HOME,
+        0x31 => SEARCH_ID_EQUAL,
+        0x51 => SEARCH_ID_HIGH,
+        0x71 => SEARCH_ID_EQUAL_OR_HIGH,
+        0x29 => SEARCH_KEY_EQUAL,
+        0x49 => SEARCH_KEY_HIGH,
+        0x69 => SEARCH_KEY_EQUAL_OR_HIGH,
+        0x1A => READ_HOME,
+        0x16 => READ_R0,
+        0x12 => READ_COUNT,
+        0x06 => READ_DATA,
+        0x0E => READ_KEY_DATA,
+        0x1E => READ_COUNT_KEY_DATA,
+        0x19 => WRITE_HOME,
+        0x15 => WRITE_R0,
+        0x1D => WRITE_COUNT_KEY_DATA,
+        0x05 => WRITE_DATA,
+        0x0D => WRITE_KEY_DATA,
+        _ => UNKNOWN,
     }
 }
 
-// Whether a command is a search or a read.
+// Whether a command is a search or a read, with anything in them, for which equality would not do.
+#[tactic(auto, unfolding(crate::specs::Table::looks))]
 pub fn is_look(a: Act) -> bool
     ensures { result ≡ looks a }
 {
-    match a {
-        Act::Search(_) => true,
-        Act::Read(_) => true,
-        _ => false,
-    }
+    matches!(a, Act::Search(_) | Act::Read(_))
 }
 
 // Whether Read Data takes the record that a command left selected.
+#[tactic(auto, unfolding(crate::specs::Table::serves_data))]
 pub fn serves_data(s: Serves) -> bool
     ensures { result ≡ serves_data s }
 {
-    if let Serves::Nobody = s { false } else { true }
+    s != Serves::Nobody
 }
 
-// Whether Read Key and Data and the searches by key take it.
+// Whether Read Key and Data and the searches by key take it. Like `is_home` but for the type, which a generic function would only hide.
+#[tactic(auto, unfolding(crate::specs::Table::serves_key))]
 pub fn serves_key(s: Serves) -> bool
     ensures { result ≡ serves_key s }
 {
-    match s {
-        Serves::DataAndKey => true,
-        _ => false,
-    }
+    s == Serves::DataAndKey
 }
 
 // Whether a command is home address work.
+#[tactic(auto, unfolding(crate::specs::Table::is_home))]
 pub fn is_home(a: Aim) -> bool
     ensures { result ≡ is_home a }
 {
-    match a {
-        Aim::HomeAddress => true,
-        _ => false,
-    }
+    a == Aim::HomeAddress
 }
 
 // Whether a byte is a mask.
+#[tactic(auto, using(cells::proofs::Tests::tests), unfolding(crate::specs::Table::is_mask))]
 pub fn is_mask(mask: u8) -> bool
     ensures { result ≡ is_mask mask }
 {
     mask / BIT_2 % 0b10 == 0 && mask % BIT_4 == 0
 }
 
-// Whether a mask bars a write.
+// Whether a mask bars a write. Its tests of the two bits have nothing in common with those for a seek, so one function over both would be no plainer.
 pub fn bars_write(mask: u8, write: Writing) -> bool
     ensures { result ≡ bars_write mask write }
 {

@@ -4,7 +4,7 @@
 use held::{Orders, Position};
 use rows::Row;
 
-// How a command ended.
+// How a command ended: four cases, so no Option.
 #[derive(Clone, Copy)]
 pub enum Ending {
     Normal,
@@ -13,7 +13,7 @@ pub enum Ending {
     Check(Row),
 }
 
-// The bytes that move: none, and length does not count; so many that it gives; so many that it takes of those sent.
+// The bytes that move: none, and length does not count; so many that it gives; so many that it takes of those sent. Three cases, so no Option.
 #[derive(Clone, Copy)]
 pub enum Transfer {
     None,

@@ -5,9 +5,7 @@ use mathlib.Core.Bool.{Bool, true, false}
 use mathlib.Core.List.{List, ◌∷◌}
 use native.Mathlib.Omega.{arith}
 use lib.ListN.{length, get_or}
-use borrow.Author.Tests.{lt-ltb, le-ltb}
-use Rattle.cells.specs.Cells.{part, overlay, padded, marker}
-use Rattle.cells.proofs.Tests.{first_picked, second_picked}
+use Rattle.cells.specs.Cells.{overlay, padded, marker}
 use Rattle.house_check.specs.Check as House
 use Rattle.areas.specs.declared.{Area.Area, Counts.Counts}
 use Rattle.areas.specs.Areas.{key_area, data_area, record_cells, end_by, needed, flag_of_r0, flag_after}
@@ -23,7 +21,7 @@ use Rattle.command.proofs.Pieces.{format_is}
 use Rattle.table.specs.declared.{Names.Names, Write.Write, Act.Act}
 use Rattle.turn.specs.Turn.{alone, lay, is_check}
 use Rattle.command.specs.declared.{Job.Job}
-use Rattle.writes.specs.Writes.{DoesWrite, gone_over, updated, Over}
+use Rattle.writes.specs.Writes.{DoesWrite, updated, Over}
 use Rattle.writes.proofs.Laws.{home_lays, new-fits, new_lays, update_recorded, update_lays, recorded-over}
 
 -- ---- the home address
@@ -71,29 +69,12 @@ module _ (flag : ℕ) (v t : List ℕ) (w : WholeTrack t) (n : Counts) (p : n �
 
 -- ---- an area that an update goes over
 
-module _ (t : List ℕ) (first : ℕ) (v : List ℕ) (from n : ℕ) where
-  pub gone-over : (u : List ℕ) → 0 < n → u ≡ area_written t first (part v from n) n → u ≡ gone_over t first v from n
-  unfolding gone_over
-  gone-over u h f = f ∙ sym (first_picked _ _ _ (lt-ltb 0 n h))
-
-  pub not_over : n ≤ 0 → t ≡ gone_over t first v from n
-  unfolding gone_over
-  not_over h = sym (second_picked _ _ _ (le-ltb 0 n h))
-
 module _ (t : List ℕ) (key : Bool) (c : ℕ) (n : Counts) (o : Over t key c n) (s : ℕ) (q : s ≡ key_sent key n) where
   pub key_lies : (a : Area) → a ≡ key_area c n → 0 < s → Lies t a.first s
   key_lies a e h = subst (λ (x : Area). Lies t x.first s) (sym e) (subst (λ (i : ℕ). Lies t (key_area c n).first i) (sym q) (o.keyed (subst (λ (i : ℕ). 0 < i) q h)))
 
   pub data_lies : (u : List ℕ) (d : Area) → length u ≡ length t → d ≡ data_area c n → 0 < n.dl → Lies u d.first n.dl
   data_lies u d l e h = record { ends = omega (arith, (o.body h).ends, l, ap (λ (a : Area). a.first) e) }
-
-  pub both-updated : (v t₁ t₂ : List ℕ) (a d : Area) → a ≡ key_area c n → t₁ ≡ gone_over t a.first v 0 s → d ≡ data_area c n → t₂ ≡ gone_over t₁ d.first v s n.dl
-      → t₂ ≡ updated t key c n v
-  unfolding updated
-  both-updated v t₁ t₂ a d e f g h =
-      h ∙ ap₂ (λ (x : Area) (i : ℕ). gone_over t₁ x.first v i n.dl) g q
-      ∙ ap (λ (x : List ℕ). gone_over x (data_area c n).first v (key_sent key n) n.dl)
-      (f ∙ ap₂ (λ (x : Area) (i : ℕ). gone_over t x.first v 0 i) e q)
 
 -- ---- by the write
 

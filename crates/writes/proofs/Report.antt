@@ -65,19 +65,7 @@ module _ (t : List ℕ) (j : Job) (v : List ℕ) where
 
 -- ---- an update: whether the areas that it goes over are byte cells
 
-both_true : (b : Bool) → both b true ≡ b
-both_true true = refl
-both_true false = refl
-
 module _ (t : List ℕ) where
-  pub not_there : (b : Bool) (a : Area) → b ≡ false → true ≡ all_recorded t (area_if b a)
-  unfolding all_recorded area_if
-  not_there b a e = ap (λ (z : Bool). all_recorded t (area_if z a)) (sym e)
-
-  pub area_there : (b : Bool) (a : Area) (r : Bool) → b ≡ true → r ≡ recorded t a → r ≡ all_recorded t (area_if b a)
-  unfolding all_recorded area_if
-  area_there b a r e f = f ∙ sym (both_true (recorded t a)) ∙ ap (λ (z : Bool). all_recorded t (area_if z a)) (sym e)
-
   recorded-two : (l m : List Area) → all_recorded t (l ++ m) ≡ both (all_recorded t l) (all_recorded t m)
   unfolding all_recorded
   recorded-two [] m = refl
@@ -103,8 +91,8 @@ module _ (t : List ℕ) (key : Bool) (c : ℕ) (n : Counts) (s : ℕ) (q : s ≡
   pub key_bad : x ≡ false → false ≡ all_recorded t (named c key true n)
   key_bad e = sym (key_part ∙ ap (λ (z : Bool). both z (all_recorded t (area_if (ltb 0 n.dl) (data_area c n)))) e)
 
-  pub both-recorded : (d : Area) (y : Bool) → x ≡ true → d ≡ data_area c n → y ≡ all_recorded t (area_if (ltb 0 n.dl) d) → y ≡ all_recorded t (named c key true n)
-  both-recorded d y e o g =
+  pub both_recorded : (d : Area) (y : Bool) → x ≡ true → d ≡ data_area c n → y ≡ all_recorded t (area_if (ltb 0 n.dl) d) → y ≡ all_recorded t (named c key true n)
+  both_recorded d y e o g =
       g ∙ ap (λ (a : Area). all_recorded t (area_if (ltb 0 n.dl) a)) o
       ∙ sym (key_part ∙ ap (λ (z : Bool). both z (all_recorded t (area_if (ltb 0 n.dl) (data_area c n)))) e)
 

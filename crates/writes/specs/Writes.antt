@@ -1,5 +1,5 @@
 -- What the functions of the writes promise one another. No rule of document 01's.
-use Rattle.std.specs.Prelude.{ℕ, ◌+◌, ◌<◌, ◌≡◌, Bool, List, ltb}
+use Rattle.std.specs.Prelude.{ℕ, ◌<◌, ◌≡◌, Bool, List, ltb}
 use Rattle.cells.specs.Cells.{pick, part}
 use Rattle.areas.specs.declared.{Counts.Counts}
 use Rattle.areas.specs.Areas.{key_area, data_area}
