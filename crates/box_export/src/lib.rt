@@ -1,4 +1,5 @@
-// The box, and a look at a track: what `box_export_c` exports, each function under its name. Nothing is required of any caller.
+// The box, and a look at a track: what `box_export_c` exports, each function under its name, so that answers are C's
+// numbers. Nothing is required of any caller.
 #![tactic(auto)]
 
 ghost use Rattle.std.specs.Prelude.{◌≡◌, length, eqb};

@@ -35,7 +35,8 @@ fn command(g: Shape, h: Held, w: Word, storage: &mut [u8], cells: &mut [u16]) ->
     obey(g, h, w, storage, &mut cells[start..end])
 }
 
-// One command word.
+// One command word. That all is legal stays a requires from here on: it is of shape, held state, storage and cells together, each of which a call
+// takes or changes apart from the rest.
 pub fn step(g: Shape, h: Held, storage: &mut [u8], cells: &mut [u16]) -> Held
     requires { Legal g (world h storage.old cells.old) }
     ensures { world result storage.new cells.new ≡ step g (world h storage.old cells.old) }
@@ -54,7 +55,7 @@ struct Reached {
     left: u16,
 }
 
-// Whether a word is a No-op that chains.
+// Whether a word is a No-op that chains. A code is a byte, of which all 256 may stand in a word.
 fn is_chained_no_op(w: Word) -> bool
     ensures { result ≡ chained_no_op w }
 {

@@ -29,6 +29,7 @@ const CHECK: u8 = 0x0E;
 
 const WRONG_LENGTH: u8 = 0x40;
 
+// The byte itself is what storage gets: the match is document 01's table.
 fn unit_status(e: Ending) -> u8
     ensures { result ≡ unit_status e }
 {
@@ -73,6 +74,7 @@ fn wants(m: Transfer) -> u32
     }
 }
 
+// Word and report stay two: one struct of both would only be taken apart again in each of these, and copied (DECISIONS 97).
 fn bytes_moved(w: Word, d: Report) -> u16
     ensures { result ≡ bytes_moved w d }
 {
@@ -207,7 +209,7 @@ pub fn obey(g: Shape, h: Held, w: Word, storage: &mut [u8], track: &mut Track) -
     ensures { world result storage.new track.new ≡ obeyed_on g (world h storage.old track.old) w }
 {
     let at = w.address as usize;
-    let end = at + w.count as usize;
+    let end = at + usize::from(w.count);
     let d = turn(g, h, w.code, &mut storage[at..end], track);
     settle(h.channel, w, d, storage)
 }

@@ -45,7 +45,7 @@ pub fn ready(code: u8, track: &Track, s: Position, o: Orders) -> Result<Job, Row
     read(code, rule, s, o, k, track)
 }
 
-// What a job reports.
+// What a job reports. That its areas are readable on the track (`Sighted`) stays a requires: it is of two values, and the track is changed without the job.
 pub fn ask(g: Shape, j: Job, sent: &[u8], track: &Track) -> Report
     requires { Sighted (alone track.now) j }
     ensures { result ≡ report_of (job_turn g track.now j sent.now) }
