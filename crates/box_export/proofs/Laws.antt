@@ -50,14 +50,14 @@ module _ (g : Shape) (v s c : List ℕ) (x : Option Held) (e : x ≡ kept v) whe
     unfolding go_call go_kept
     go_told m a n k w u d p q r = telling _ a n k v w u d h p q (sym e ∙ f) r ∙ ap (go_kept g m v s c) (sym f ∙ e)
 
-  module _ (f : x ≡ None) (a : Answer) (n : ℕ) (p : a ≡ wrong_held g (length s) (length c)) (q : n ≡ answer_no a) where
+  module _ (f : x ≡ None) (n : ℕ) (q : n ≡ answer_no (wrong_held g (length s) (length c))) where
     pub start_wrong : call n v s c ≡ start_call g v s c
     unfolding start_call start_kept
-    start_wrong = call_eq (q ∙ ap answer_no p) refl refl refl ∙ ap (start_kept g v s c) (sym f ∙ e)
+    start_wrong = call_eq q refl refl refl ∙ ap (start_kept g v s c) (sym f ∙ e)
 
     pub go_wrong : (m : ℕ) → call n v s c ≡ go_call g m v s c
     unfolding go_call go_kept
-    go_wrong m = call_eq (q ∙ ap answer_no p) refl refl refl ∙ ap (go_kept g m v s c) (sym f ∙ e)
+    go_wrong m = call_eq q refl refl refl ∙ ap (go_kept g m v s c) (sym f ∙ e)
 
 -- ---- the fresh box
 

@@ -1,13 +1,16 @@
-// The box, and a look at a track, under names that C and Rust link. Nothing is required of any caller.
+// The box, and a look at a track: what `box_export_c` exports, each function under its name, so that answers are C's
+// numbers. Nothing is required of any caller.
 #![tactic(auto)]
 
 ghost use Rattle.std.specs.Prelude.{◌≡◌, length, eqb};
 ghost use Rattle.cells.specs.Cells.{pick};
 ghost use Rattle.held.specs.Held.{fresh, held_bytes, encoded, bit};
+ghost use Rattle.host.specs.Host.{answer_no, wrong_held};
 ghost use Rattle.look.specs.Look.{marker_call, looked, area_call};
 ghost use Rattle.box_export.specs.Calls.{call, shape, start_call, go_call};
 
 use held::Held;
+use host::Heard;
 use pack::Shape;
 
 // The fresh box: 1 if it was written, 0 with nothing written if the length is wrong.
@@ -21,6 +24,23 @@ pub fn poplar_fresh(bytes: &mut [u8]) -> u8
     0
 }
 
+// What is heard: what is held then, in the lent bytes, and the answer's number.
+fn tell(bytes: &mut [u8], heard: Heard) -> u8
+    ensures { (result ≡ answer_no heard.answer)
+        × (bytes.new ≡ pick (eqb (length bytes.old) held_bytes) (encoded heard.held) bytes.old) }
+{
+    held::put(bytes, heard.held);
+    host::number_of(heard.answer)
+}
+
+// Bytes that encode no held state.
+fn refuse(g: Shape, storage: &[u8], cells: &[u16]) -> u8
+    ensures { result ≡ answer_no (wrong_held g (length storage.now) (length cells.now)) }
+{
+    host::number_of(host::wrong_held(g, storage.len(), cells.len()))
+}
+
+// A start and a go differ in the call alone: a closure for it would be lent storage and cells again, and say again what comes back.
 // Starts a chain.
 pub fn poplar_start(
     bytes: &mut [u8],
@@ -34,13 +54,8 @@ pub fn poplar_start(
 {
     let g = Shape { cylinders, heads };
     match held::keep(bytes) {
-        Some(h) => {
-            let heard = host::start(g, h, storage, cells);
-            held::put(bytes, heard.held);
-            let answer = heard.answer;
-            host::number_of(answer)
-        }
-        None => host::number_of(host::wrong_held(g, storage.len(), cells.len())),
+        Some(h) => tell(bytes, host::start(g, h, storage, cells)),
+        None => refuse(g, storage, cells),
     }
 }
 
@@ -58,13 +73,8 @@ pub fn poplar_go(
 {
     let g = Shape { cylinders, heads };
     match held::keep(bytes) {
-        Some(h) => {
-            let heard = host::go(g, h, storage, cells, allowance);
-            held::put(bytes, heard.held);
-            let answer = heard.answer;
-            host::number_of(answer)
-        }
-        None => host::number_of(host::wrong_held(g, storage.len(), cells.len())),
+        Some(h) => tell(bytes, host::go(g, h, storage, cells, allowance)),
+        None => refuse(g, storage, cells),
     }
 }
 

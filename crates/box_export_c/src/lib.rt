@@ -1,4 +1,5 @@
-// What C and Rust link: the functions of `box_export` under their own names, each with its clauses again.
+// What C and Rust link: the functions of `box_export` under their own names, each with its clauses again. C needs them apart: they hold no code, and
+// programs in Rattle call their fellows.
 #![tactic(auto)]
 
 ghost use Rattle.std.specs.Prelude.{◌≡◌, length, eqb};

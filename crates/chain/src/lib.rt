@@ -3,7 +3,8 @@
 
 ghost use Rattle.std.specs.Prelude.{◌≡◌, true, false, ℕ, ◌<◌, ◌≤◌};
 ghost use Rattle.words.specs.Words.{AreaFits, tested};
-ghost use Rattle.channel.specs.Channel.{world};
+ghost use Rattle.channel.specs.Channel.{world, obeyed_on};
+ghost use Rattle.channel.specs.Inside.{CanObey};
 ghost use Rattle.chain.specs.Step.{obeyed, step, run, Legal};
 ghost use Rattle.chain.specs.Stroke.{chained_no_op, tested_chained_no_op, after_no_ops, SameRun};
 
@@ -13,6 +14,17 @@ use words::{Directive, Word};
 
 const NO_OP: u8 = 0x03;
 
+// The cells of one track, as one: the channel is lent no other number of them.
+fn obey(g: Shape, h: Held, w: Word, storage: &mut [u8], cells: &mut [u16]) -> Held
+    requires { CanObey h w storage.old cells.old }
+    ensures { world result storage.new cells.new ≡ obeyed_on g (world h storage.old cells.old) w }
+{
+    let Some(track) = cells.as_mut_array() else {
+        unreachable!()
+    };
+    channel::obey(g, h, w, storage, track)
+}
+
 // A command has its turn on the track under the head, whose cells are lent on.
 fn command(g: Shape, h: Held, w: Word, storage: &mut [u8], cells: &mut [u16]) -> Held
     requires { Legal g (world h storage.old cells.old) × AreaFits storage.old w }
@@ -20,10 +32,11 @@ fn command(g: Shape, h: Held, w: Word, storage: &mut [u8], cells: &mut [u16]) ->
 {
     let start = pack::start_of(g, h.position.cylinder, h.position.head);
     let end = start + cells::TRACK_CELLS;
-    channel::obey(g, h, w, storage, &mut cells[start..end])
+    obey(g, h, w, storage, &mut cells[start..end])
 }
 
-// One command word.
+// One command word. That all is legal stays a requires from here on: it is of shape, held state, storage and cells together, each of which a call
+// takes or changes apart from the rest.
 pub fn step(g: Shape, h: Held, storage: &mut [u8], cells: &mut [u16]) -> Held
     requires { Legal g (world h storage.old cells.old) }
     ensures { world result storage.new cells.new ≡ step g (world h storage.old cells.old) }
@@ -42,49 +55,42 @@ struct Reached {
     left: u16,
 }
 
-// Whether a word is a No-op that chains.
+// Whether a word is a No-op that chains. A code is a byte, of which all 256 may stand in a word.
 fn is_chained_no_op(w: Word) -> bool
     ensures { result ≡ chained_no_op w }
 {
-    if w.code != NO_OP {
-        return false;
-    }
-    w.flags / words::CHAINS % 2 == 1
+    w.code == NO_OP && w.flags / words::CHAINS % 2 == 1
 }
 
 // Whether the word at an address is one.
 fn is_chained_no_op_at(storage: &[u8], at: u32) -> bool
     ensures { result ≡ tested_chained_no_op (tested storage.now at false) }
 {
-    match words::test(storage, at, false) {
-        Ok(Directive::Obey(w)) => is_chained_no_op(w),
-        Ok(Directive::Jump(_)) => false,
-        Err(_) => false,
-    }
+    let Ok(Directive::Obey(w)) = words::test(storage, at, false) else {
+        return false;
+    };
+    is_chained_no_op(w)
 }
 
 fn after_no_ops(h: Held, next: u32) -> Held
     ensures { result ≡ after_no_ops h next }
 {
-    let position = h.position;
     let orders = Orders {
-        mask: h.orders.mask,
-        mask_set: h.orders.mask_set,
         before: NO_OP,
         whole: false,
         tally: 0,
         selection: None,
+        ..h.orders
     };
     let channel = Channel {
-        going: h.channel.going,
-        key: h.channel.key,
         next,
         after_tic: false,
+        ..h.channel
     };
     Held {
-        position,
         orders,
         channel,
+        ..h
     }
 }
 
@@ -94,20 +100,18 @@ fn pass_no_ops(h: Held, storage: &[u8], allowance: u16) -> Reached
     ensures { SameRun storage.now h allowance result.held result.left × (result.left < allowance) }
 {
     let mut next = words::advanced(h.channel.next, words::WORD);
-    let mut rest = allowance - 1;
-    while 0 < rest {
+    for passed in 1..allowance {
         if !is_chained_no_op_at(storage, next) {
             return Reached {
                 held: after_no_ops(h, next),
-                left: rest,
+                left: allowance - passed,
             };
         }
         next = words::advanced(next, words::WORD);
-        rest -= 1;
     }
     Reached {
         held: after_no_ops(h, next),
-        left: rest,
+        left: 0,
     }
 }
 

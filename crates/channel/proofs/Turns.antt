@@ -6,11 +6,11 @@ use mathlib.Core.Bool.{Bool, true, false}
 use mathlib.Core.List.{List, [], append_assoc}
 use native.Mathlib.Omega.{arith}
 use lib.ListN.{length, take, drop, length-take}
-use lib.Seq.{take-nil, drop-drop}
+use lib.Seq.{drop-drop}
 use borrow.Rule.Slice.PartMut.{put_mid}
 use Rattle.cells.specs.Cells.{part, overlay}
 use native.Mathlib.Nat.{add-zero}
-use Rattle.cells.proofs.Laws.{length_part, length-overlay, overlay_none, overlay_same}
+use Rattle.cells.proofs.Laws.{length_part, length-overlay, overlay_same}
 use Rattle.channel.proofs.Parts.{overlay_inner}
 use Rattle.rows.specs.declared.{Row.Row}
 use Rattle.table.specs.declared.{Control.Control, Act.Act}
@@ -21,14 +21,15 @@ use Rattle.held.specs.declared.{Held.Held, Position.Position, Orders.Orders}
 use Rattle.turn.specs.declared.{Transfer.Transfer, Report.Report}
 use Rattle.turn.specs.Turn.{TrackArea, Piece, Moves, None, Gives, Takes, alone, given, transfer_of, filled, Turn, report_of, lay, is_check, check_turn}
 use Rattle.command.specs.declared.{Job.Job}
-use Rattle.command.specs.Command.{sight, ready_of}
+use Rattle.command.specs.Command.{sight, ready_of, command}
 use Rattle.command.proofs.Acts.{LaysBy, Lays, check_keeps, acts_keeps}
 use Rattle.command.proofs.Comes.{job_acts, row_ends}
 use Rattle.unit.specs.Unit.{job_turn, Accepts}
+use Rattle.unit.proofs.Laws.{filled_none}
 use Rattle.ending.specs.Ending.{check_report}
 use Rattle.ending.proofs.Laws.{failed}
 use Rattle.channel.specs.Channel.{fetched, placed, held_after, with_status, storage_after, world, turn_on, obeyed_on}
-use Rattle.channel.specs.Inside.{word_turn, Turned}
+use Rattle.channel.specs.Inside.{Acted, Turned}
 use Rattle.std.specs.Prelude.{Err, Ok, Result}
 
 -- ---- the part of storage that a word names
@@ -66,31 +67,6 @@ module _ (s v : List ℕ) (a n : ℕ) (inside : a + n ≤ length s) where
 pub came_back : (s u v w : List ℕ) (a n : ℕ) → a + n ≤ length s → u ≡ filled (take (a + n - a) (drop a s)) 0 v → v ≡ w → put_mid a (a + n - a) s u ≡ overlay s a (take n w)
 came_back s u v w a n inside e f = ap (put_mid a (a + n - a) s) e ∙ back s v a n inside ∙ ap (λ (z : List ℕ). overlay s a (take n z)) f
 
--- ---- what the calls on that part come to
-
-module _ (j : Job) (w : Word) (s t : List ℕ) where
-  abbrev sent : List ℕ
-  sent = take (w.address + w.count - w.address) (drop w.address s)
-
-  turn_is : (g : Shape) → job_turn g t j sent ≡ word_turn g j w s t
-  unfolding word_turn fetched
-  turn_is g = ap (job_turn g t j) (sent_is s w.address w.count)
-
-  pub asked : (g : Shape) (d : Report) → d ≡ report_of (job_turn g t j sent) → d ≡ report_of (word_turn g j w s t)
-  asked g d e = e ∙ ap report_of (turn_is g)
-
-  pub gave : (u : List ℕ) → AreaFits s w → ((g : Shape) (v : List ℕ) → u ≡ filled sent 0 (given (job_turn g t j v).moves))
-      → (g : Shape) → put_mid w.address (w.address + w.count - w.address) s u ≡ placed s w (given (word_turn g j w s t).moves)
-  unfolding placed word_turn
-  gave u r e g = came_back s u _ _ w.address w.count r.area (e g (fetched s w)) refl
-
-  pub accepts : Accepts j (fetched s w) t → Accepts j sent t
-  unfolding fetched
-  accepts h = subst (λ (v : List ℕ). Accepts j v t) (sym (sent_is s w.address w.count)) h
-
-  pub laid_there : (u : List ℕ) → ((g : Shape) → u ≡ lay (job_turn g t j sent).lays t) → (g : Shape) → u ≡ lay (word_turn g j w s t).lays t
-  laid_there u e g = e g ∙ ap (λ (z : Turn). lay z.lays t) (turn_is g)
-
 -- ---- one transfer is all of a turn
 
 -- by the number of bytes told: what lays nothing, and what gives nothing
@@ -110,23 +86,22 @@ module _ (x : Turn) (d : Report) (m : Transfer) (h : Lays x) (told : d ≡ repor
   unfolding report_of
   by e = subst (λ (z : Transfer). Alone z (given x.moves) x.lays) (sym (ap (λ (z : Report). z.transfer) told) ∙ e) (moves_alone x.moves x.lays h.moves)
 
-module _ (x : Turn) (d : Report) (h : Lays x) (told : d ≡ report_of x) (w : Word) (s t : List ℕ) where
-  placed_none : given x.moves ≡ [] → s ≡ placed s w (given x.moves)
-  unfolding placed
-  placed_none e = sym (ap (λ (v : List ℕ). overlay s w.address (take w.count v)) e ∙ ap (overlay s w.address) (take-nil w.count) ∙ overlay_none s w.address)
+module _ (x : Turn) (d : Report) (h : Lays x) (told : d ≡ report_of x) (v t : List ℕ) where
+  filled_by : given x.moves ≡ [] → v ≡ filled v 0 (given x.moves)
+  filled_by e = filled_none v 0 ∙ ap (filled v 0) (sym e)
 
   laid_none : x.lays ≡ [] → t ≡ lay x.lays t
   unfolding lay
   laid_none e = sym (ap (λ (l : List Piece). lay l t) e)
 
-  pub none_moves : d.transfer ≡ Transfer.None → Turned x w s t s t d
-  none_moves e = let a = by x d Transfer.None h told e in record { told = told; storage = placed_none a.0; track = laid_none a.1 }
+  pub none_moves : d.transfer ≡ Transfer.None → Acted x v t v t d
+  none_moves e = let a = by x d Transfer.None h told e in record { told = told; area = filled_by a.0; track = laid_none a.1 }
 
-  pub gives_moves : (n : ℕ) (s' : List ℕ) → d.transfer ≡ Transfer.Gives n → s' ≡ placed s w (given x.moves) → Turned x w s t s' t d
-  gives_moves n s' e p = record { told = told; storage = p; track = laid_none (by x d (Transfer.Gives n) h told e) }
+  pub gives_moves : (n : ℕ) (v' : List ℕ) → d.transfer ≡ Transfer.Gives n → v' ≡ filled v 0 (given x.moves) → Acted x v t v' t d
+  gives_moves n v' e p = record { told = told; area = p; track = laid_none (by x d (Transfer.Gives n) h told e) }
 
-  pub takes_moves : (n : ℕ) (t' : List ℕ) → d.transfer ≡ Transfer.Takes n → t' ≡ lay x.lays t → Turned x w s t s t' d
-  takes_moves n t' e p = record { told = told; storage = placed_none (by x d (Transfer.Takes n) h told e); track = p }
+  pub takes_moves : (n : ℕ) (t' : List ℕ) → d.transfer ≡ Transfer.Takes n → t' ≡ lay x.lays t → Acted x v t v t' d
+  takes_moves n t' e p = record { told = told; area = filled_by (by x d (Transfer.Takes n) h told e); track = p }
 
 -- a Unit Check lays nothing
 pub check_laid : (x : Turn) (d : Report) (t : List ℕ) (b : Bool) → Lays x → d ≡ report_of x → b ≡ is_check d.ending → b ≡ true → t ≡ lay x.lays t
@@ -134,41 +109,58 @@ unfolding report_of lay
 check_laid x d t b h told e f =
     sym (ap (λ (l : List Piece). lay l t) (h.checked (sym (ap (λ (z : Report). is_check z.ending) told) ∙ sym e ∙ f)))
 
-pub job_lay : (g : Shape) (j : Job) (w : Word) (s t : List ℕ) → Lays (word_turn g j w s t)
-unfolding word_turn
-job_lay g j w s t = (acts_keeps (sight (alone t) j (fetched s w)) g j.act).lays
+pub job_lay : (g : Shape) (j : Job) (v t : List ℕ) → Lays (job_turn g t j v)
+job_lay g j v t = (acts_keeps (sight (alone t) j v) g j.act).lays
 
-pub not_check : (g : Shape) (j : Job) (w : Word) (s t : List ℕ) (d : Report) (b : Bool) → d ≡ report_of (word_turn g j w s t) → b ≡ is_check d.ending → b ≡ false
-    → Accepts j (fetched s w) t
-unfolding report_of word_turn
-not_check g j w s t d b told e f = record { shape = g; ends = sym (ap (λ (z : Report). is_check z.ending) told) ∙ sym e ∙ f }
+pub not_check : (g : Shape) (j : Job) (v t : List ℕ) (d : Report) (b : Bool) → d ≡ report_of (job_turn g t j v) → b ≡ is_check d.ending → b ≡ false
+    → Accepts j v t
+unfolding report_of
+not_check g j v t d b told e f = record { shape = g; ends = sym (ap (λ (z : Report). is_check z.ending) told) ∙ sym e ∙ f }
 
 -- ---- a command
 
 -- a Unit Check: nothing is given and nothing laid
-fails_turned : (st : Position) (o : Orders) (l : List TrackArea) (row : Row) (w : Word) (s t : List ℕ) (d : Report) → d ≡ check_report st o row
-    → Turned (check_turn st o l row) w s t s t d
+fails_acted : (st : Position) (o : Orders) (l : List TrackArea) (row : Row) (v t : List ℕ) (d : Report) → d ≡ check_report st o row
+    → Acted (check_turn st o l row) v t v t d
 unfolding check_turn given lay
-fails_turned st o l row w s t d e =
+fails_acted st o l row v t d e =
     let told : d ≡ report_of (check_turn st o l row) = e ∙ sym (failed st o l row) in
-    record { told = told; storage = placed_none (check_turn st o l row) d (check_keeps (Act.Control Control.NoOp) l st.head st o row).lays told w s t refl; track = refl }
+    record { told = told; area = filled_none v 0; track = refl }
 
-module _ (g : Shape) (h : Held) (w : Word) (s t : List ℕ) (x : Result Job Row) (ready : x ≡ ready_of (alone t) h.position h.orders w.code) where
-  pub row_turned : (row : Row) (d : Report) → x ≡ Err row → d ≡ check_report h.position h.orders row → Turned (turn_on g (world h s t) w) w s t s t d
-  unfolding turn_on
-  row_turned row d q e =
-      subst (λ (z : Turn). Turned z w s t s t d) (row_ends (alone t) h.position h.orders w.code row (sym q ∙ ready) g (fetched s w))
-      (fails_turned h.position h.orders _ row w s t d e)
+module _ (g : Shape) (st : Position) (o : Orders) (code : ℕ) (v t : List ℕ) (x : Result Job Row) (ready : x ≡ ready_of (alone t) st o code) where
+  pub row_acted : (row : Row) (d : Report) → x ≡ Err row → d ≡ check_report st o row → Acted (command g (alone t) st o code v) v t v t d
+  row_acted row d q e =
+      subst (λ (z : Turn). Acted z v t v t d) (row_ends (alone t) st o code row (sym q ∙ ready) g v) (fails_acted st o _ row v t d e)
 
-  pub job_turned : (j : Job) (s' t' : List ℕ) (d : Report) → x ≡ Ok j → Turned (word_turn g j w s t) w s t s' t' d
-      → Turned (turn_on g (world h s t) w) w s t s' t' d
-  unfolding turn_on word_turn
-  job_turned j s' t' d q e =
-      subst (λ (z : Turn). Turned z w s t s' t' d) (job_acts (alone t) h.position h.orders w.code j (sym q ∙ ready) g (fetched s w)) e
+  pub job_acted : (j : Job) (v' t' : List ℕ) (d : Report) → x ≡ Ok j → Acted (job_turn g t j v) v t v' t' d → Acted (command g (alone t) st o code v) v t v' t' d
+  job_acted j v' t' d q e =
+      subst (λ (z : Turn). Acted z v t v' t' d) (job_acts (alone t) st o code j (sym q ∙ ready) g v) e
 
-pub obeys : (g : Shape) (h r : Held) (w : Word) (s t s' t' s'' : List ℕ) (d : Report) → Turned (turn_on g (world h s t) w) w s t s' t' d
-    → r ≡ held_after h.channel w d → s'' ≡ with_status h.channel w d s' → world r s'' t' ≡ obeyed_on g (world h s t) w
-unfolding obeyed_on storage_after
-obeys g h r w s t s' t' s'' d T p q =
-    λ i. world ((p ∙ ap (held_after h.channel w) T.told) i)
-    ((q ∙ ap₂ (with_status h.channel w) T.told T.storage) i) (T.track i)
+-- ---- a word
+
+module _ (g : Shape) (h : Held) (w : Word) (s t : List ℕ) where
+  abbrev sent : List ℕ
+  sent = take (w.address + w.count - w.address) (drop w.address s)
+
+  abbrev back_in : List ℕ → List ℕ
+  back_in u = put_mid w.address (w.address + w.count - w.address) s u
+
+  -- the area that was lent is the one at the word's address
+  acted_there : (u t' : List ℕ) (d : Report) → AreaFits s w → Acted (command g (alone t) h.position h.orders w.code sent) sent t u t' d
+      → Turned (turn_on g (world h s t) w) w s t (back_in u) t' d
+  unfolding turn_on fetched placed
+  acted_there u t' d r a =
+      let e = ap (command g (alone t) h.position h.orders w.code) (sent_is s w.address w.count) in
+      record {
+        told = a.told ∙ ap report_of e;
+        storage = came_back s u _ _ w.address w.count r.area a.area (ap (λ (z : Turn). given z.moves) e);
+        track = a.track ∙ ap (λ (z : Turn). lay z.lays t) e;
+      }
+
+  pub obeys : (r : Held) (u t' s'' : List ℕ) (d : Report) → AreaFits s w → Acted (command g (alone t) h.position h.orders w.code sent) sent t u t' d
+      → r ≡ held_after h.channel w d → s'' ≡ with_status h.channel w d (back_in u) → world r s'' t' ≡ obeyed_on g (world h s t) w
+  unfolding obeyed_on storage_after
+  obeys r u t' s'' d f a p q =
+      let T = acted_there u t' d f a in
+      λ i. world ((p ∙ ap (held_after h.channel w) T.told) i)
+      ((q ∙ ap₂ (with_status h.channel w) T.told T.storage) i) (T.track i)

@@ -8,16 +8,16 @@ use Rattle.pack.specs.declared.{Shape.Shape}
 use Rattle.held.specs.declared.{Held.Held}
 use Rattle.command.specs.Command.{SelectedOn}
 use Rattle.turn.specs.declared.{Report.Report}
-use Rattle.turn.specs.Turn.{given, Turn, report_of, lay}
-use Rattle.command.specs.declared.{Job.Job}
-use Rattle.unit.specs.Unit.{job_turn}
-use Rattle.channel.specs.Channel.{fetched, placed}
+use Rattle.turn.specs.Turn.{given, filled, Turn, report_of, lay}
+use Rattle.channel.specs.Channel.{placed}
 
--- the turn of a job, with the bytes at a word's address sent
-unfoldable pub word_turn : Shape → Job → Word → List ℕ → List ℕ → Turn
-word_turn g j w s t = job_turn g t j (fetched s w)
+-- a turn was told, the lent area has the bytes that it gives, and its cells were laid
+pub record Acted (x : Turn) (v t v' t' : List ℕ) (d : Report) : Type 0 where
+  pub told : d ≡ report_of x
+  pub area : v' ≡ filled v 0 (given x.moves)
+  pub track : t' ≡ lay x.lays t
 
--- a turn was told, its bytes were placed, and its cells were laid
+-- the same of storage, with the area at a word's address
 pub record Turned (x : Turn) (w : Word) (s t s' t' : List ℕ) (d : Report) : Type 0 where
   pub told : d ≡ report_of x
   pub storage : s' ≡ placed s w (given x.moves)

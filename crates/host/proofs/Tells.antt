@@ -15,17 +15,17 @@ use Rattle.words.specs.Words.{along, begun_by, tested}
 use Rattle.hunt.specs.declared.{Spot.Spot}
 use Rattle.hunt.specs.declared.Spot.TheVariants.{R0, Marker}
 use Rattle.pack.specs.declared.{Shape.Shape}
-use Rattle.pack.specs.Pack.{pack_fits, start_of, track_at}
+use Rattle.pack.specs.Pack.{start_of, track_at}
 use Rattle.pack.proofs.Laws.{lent_is}
 use Rattle.table.specs.declared.{Rule.Rule}
 use Rattle.table.specs.Table.{rule_of, is_mask}
 use Rattle.held.specs.declared.{Orders.Orders, Held.Held}
 use Rattle.channel.specs.Channel.{World, world}
-use Rattle.chain.specs.Step.{under, track_under, run, storage_fits, position_fits, channel_fits, selection_fits, orders_fit, held_fits}
+use Rattle.chain.specs.Step.{under, track_under, run, position_fits, channel_fits, selection_fits, orders_fit, held_fits}
 use Rattle.hunt.specs.Hunt.{spot_fits}
 use Rattle.host.specs.declared.{Answer.Answer}
-use Rattle.host.specs.declared.Answer.TheVariants.{ChainEnded, AllowanceUsed, BadStorage, BadPack, BadHeld, NoChain, ChainGoing}
-use Rattle.host.specs.Host.{Hears, hears, guard_of, wrong_held, guards, refuses_start, beginning, first_word, begins, starts, ran, goes, no_refusal}
+use Rattle.host.specs.declared.Answer.TheVariants.{ChainEnded, AllowanceUsed, NoChain, ChainGoing}
+use Rattle.host.specs.Host.{Hears, hears, guard_of, guards, refuses_start, beginning, first_word, begins, starts, ran, goes, no_refusal}
 use Rattle.std.specs.Prelude.{Some, None, Ok, Err, Option, Result}
 use Rattle.words.specs.declared.Directive.TheVariants.{Obey, Jump}
 
@@ -86,43 +86,6 @@ module _ (g : Shape) (h : Held) (cells : List ℕ) (b : Bool) (e : b ≡ positio
       all s true true z (sym e ∙ f) (sym p ∙ q)
       (sym (r ∙ ap (λ (t : List ℕ). orders_fit (marks t) h.orders) (lent_is cells a ∙ ap (track_at cells) at)))
 
--- ---- refusals 2, 3 and 4, in order
-
-module _ (g : Shape) (w : World) (a : Bool) (p : a ≡ storage_fits (length w.storage)) where
-  told : (x y z : Bool) → storage_fits (length w.storage) ≡ x → pack_fits g (length w.cells) ≡ y → held_fits g w ≡ z
-      → pick x (pick y (pick z no_refusal (Err BadHeld)) (Err BadPack)) (Err BadStorage) ≡ guard_of g w
-  unfolding guard_of
-  told x y z q r s = λ i. pick (sym q i) (pick (sym r i) (pick (sym s i) no_refusal (Err BadHeld)) (Err BadPack)) (Err BadStorage)
-
-  pub guard_2 : a ≡ false → Err BadStorage ≡ guard_of g w
-  guard_2 e = told false _ _ (sym p ∙ e) refl refl
-
-  module _ (e : a ≡ true) (b : Bool) (q : b ≡ pack_fits g (length w.cells)) where
-    pub guard_3 : b ≡ false → Err BadPack ≡ guard_of g w
-    guard_3 f = told true false _ (sym p ∙ e) (sym q ∙ f) refl
-
-    module _ (f : b ≡ true) (c : Bool) (r : c ≡ held_fits g w) where
-      pub guard_4 : c ≡ false → Err BadHeld ≡ guard_of g w
-      guard_4 h = told true true false (sym p ∙ e) (sym q ∙ f) (sym r ∙ h)
-
-      pub guard_passes : c ≡ true → no_refusal ≡ guard_of g w
-      guard_passes h = told true true true (sym p ∙ e) (sym q ∙ f) (sym r ∙ h)
-
--- the same for bytes that encode no held state
-module _ (g : Shape) (s c : ℕ) (a : Bool) (p : a ≡ storage_fits s) where
-  wrong : (x y : Bool) → storage_fits s ≡ x → pack_fits g c ≡ y → pick x (pick y BadHeld BadPack) BadStorage ≡ wrong_held g s c
-  unfolding wrong_held
-  wrong x y q r = λ i. pick (sym q i) (pick (sym r i) BadHeld BadPack) BadStorage
-
-  pub wrong_2 : a ≡ false → BadStorage ≡ wrong_held g s c
-  wrong_2 e = wrong false _ (sym p ∙ e) refl
-
-  pub wrong_3 : a ≡ true → (b : Bool) → b ≡ pack_fits g c → b ≡ false → BadPack ≡ wrong_held g s c
-  wrong_3 e b q f = wrong true false (sym p ∙ e) (sym q ∙ f)
-
-  pub wrong_4 : a ≡ true → (b : Bool) → b ≡ pack_fits g c → b ≡ true → BadHeld ≡ wrong_held g s c
-  wrong_4 e b q f = wrong true true (sym p ∙ e) (sym q ∙ f)
-
 -- ---- a start
 
 pub two_bytes : (s : List ℕ) → 80 ≤ length s → set (set s 68 0x00) 69 0x20 ≡ overlay s 68 (0x00 ∷ 0x20 ∷ [])
@@ -135,9 +98,12 @@ module _ (w : World) (x : Hears) where
   unfolding first_word
   first_obeyed key next t d e p = p ∙ ap (first_word w key next) (sym e)
 
-  pub first_jump : (key next : ℕ) (t : Result Directive Cause) (a : ℕ) → t ≡ Ok (Jump a) → x ≡ refuses_start w → x ≡ first_word w key next t
+  -- a TIC
+  pub first_other : (key next : ℕ) (t : Result Directive Cause) (d : Directive) → t ≡ Ok d → ((v : Word) → d ≡ Obey v → ⊥) → x ≡ refuses_start w
+      → x ≡ first_word w key next t
   unfolding first_word
-  first_jump key next t a e p = p ∙ ap (first_word w key next) (sym e)
+  first_other key next t (Obey v) e n p = absurd (n v refl)
+  first_other key next t (Jump a) e n p = p ∙ ap (first_word w key next) (sym e)
 
   pub first_bad : (key next : ℕ) (t : Result Directive Cause) (cause : Cause) → t ≡ Err cause → x ≡ refuses_start w → x ≡ first_word w key next t
   unfolding first_word

@@ -36,6 +36,11 @@ abbrev pub no_refusal : Result (Unit {0}) Answer
 no_refusal = Ok tt
 
 -- ---- refusals 2, 3 and 4, in order
+
+-- the first two
+unfoldable pub guard_sizes : Shape → ℕ → ℕ → Result (Unit {0}) Answer
+guard_sizes g s c = pick (storage_fits s) (pick (pack_fits g c) no_refusal (Err Answer.BadPack)) (Err Answer.BadStorage)
+
 unfoldable pub guard_of : Shape → World → Result (Unit {0}) Answer
 guard_of g w =
     pick (storage_fits (length w.storage))
@@ -77,6 +82,11 @@ unfoldable pub first_word : World → ℕ → ℕ → Result Directive Cause →
 first_word w key next (Ok (Directive.Obey d)) = hears Answer.AllowanceUsed (world (beginning w.held key next) w.storage w.cells)
 first_word w key next (Ok (Directive.Jump a)) = refuses_start w
 first_word w key next (Err cause) = refuses_start w
+
+-- by what is held once it has begun
+unfoldable pub started : World → Option Held → Hears
+started w (Some h) = hears Answer.AllowanceUsed (world h w.storage w.cells)
+started w None = refuses_start w
 
 unfoldable pub begins : World → Option (ℕ × ℕ) → Hears
 begins w (Some (key, first)) = first_word w key (along first 0) (tested w.storage (along first 0) false)

@@ -7,7 +7,7 @@ ghost use Rattle.words.specs.Words.{begun_by, tested};
 ghost use Rattle.pack.specs.Pack.{WholePack};
 ghost use Rattle.channel.specs.Channel.{world};
 ghost use Rattle.chain.specs.Step.{least_storage, storage_fits, position_fits, channel_fits, selection_fits, orders_fit, held_fits};
-ghost use Rattle.host.specs.Host.{hears, guard_of, wrong_held, refuses_start, beginning, first_word, begins, starts, goes, answer_no};
+ghost use Rattle.host.specs.Host.{hears, guard_sizes, guard_of, wrong_held, refuses_start, beginning, first_word, begins, started, starts, goes, answer_no};
 
 use held::{Channel, Held, Orders, Position};
 use hunt::Spot;
@@ -30,16 +30,17 @@ const STATUS_UNIT: usize = 68;
 
 const STATUS_CHANNEL: usize = 69;
 
+// With document 01's numbers.
 #[derive(Clone, Copy)]
 pub enum Answer {
-    ChainEnded,
-    AllowanceUsed,
-    BadStorage,
-    BadPack,
-    BadHeld,
-    BadStart,
-    NoChain,
-    ChainGoing,
+    ChainEnded = 0,
+    AllowanceUsed = 1,
+    BadStorage = 2,
+    BadPack = 3,
+    BadHeld = 4,
+    BadStart = 5,
+    NoChain = 6,
+    ChainGoing = 7,
 }
 
 // An answer, and what the box holds then.
@@ -53,16 +54,7 @@ pub struct Heard {
 pub fn number_of(a: Answer) -> u8
     ensures { result ≡ answer_no a }
 {
-    match a {
-        Answer::ChainEnded => 0,
-        Answer::AllowanceUsed => 1,
-        Answer::BadStorage => 2,
-        Answer::BadPack => 3,
-        Answer::BadHeld => 4,
-        Answer::BadStart => 5,
-        Answer::NoChain => 6,
-        Answer::ChainGoing => 7,
-    }
+    a as u8
 }
 
 fn storage_fits(n: usize) -> bool
@@ -74,8 +66,8 @@ fn storage_fits(n: usize) -> bool
 fn position_fits(g: Shape, s: Position) -> bool
     ensures { result ≡ position_fits g s }
 {
-    let cylinder = s.cylinder.0 as u32;
-    cylinder < g.cylinders && ((s.head.0 as u32) < g.heads && s.place <= cells::TRACK_END)
+    let cylinder = u32::from(s.cylinder.0);
+    cylinder < g.cylinders && (u32::from(s.head.0) < g.heads && s.place <= cells::TRACK_END)
 }
 
 fn channel_fits(c: Channel) -> bool
@@ -122,32 +114,37 @@ fn held_fits(g: Shape, h: Held, cells: &[u16]) -> bool
     let cylinder = position.cylinder;
     let head = position.head;
     let start = pack::start_of(g, cylinder, head);
-    orders_fit(&cells[start..start + cells::TRACK_END as usize], orders)
+    orders_fit(&cells[start..start + cells::TRACK_CELLS], orders)
+}
+
+// Refusals 2 and 3, in order.
+fn sizes_fit(g: Shape, storage: usize, count: usize) -> Result<(), Answer>
+    ensures { result ≡ guard_sizes g storage count }
+{
+    if !storage_fits(storage) {
+        return Err(Answer::BadStorage);
+    }
+    if !pack::pack_fits(g, count) {
+        return Err(Answer::BadPack);
+    }
+    Ok(())
 }
 
 // What bytes that encode no held state are answered: 4, after 2 and 3.
 pub fn wrong_held(g: Shape, storage: usize, count: usize) -> Answer
     ensures { result ≡ wrong_held g storage count }
 {
-    if !storage_fits(storage) {
-        return Answer::BadStorage;
+    match sizes_fit(g, storage, count) {
+        Err(answer) => answer,
+        Ok(()) => Answer::BadHeld,
     }
-    if !pack::pack_fits(g, count) {
-        return Answer::BadPack;
-    }
-    Answer::BadHeld
 }
 
 // Refusals 2, 3 and 4, in order.
 fn guard(g: Shape, h: Held, storage: &[u8], cells: &[u16]) -> Result<(), Answer>
     ensures { result ≡ guard_of g (world h storage.now cells.now) }
 {
-    if !storage_fits(storage.len()) {
-        return Err(Answer::BadStorage);
-    }
-    if !pack::pack_fits(g, cells.len()) {
-        return Err(Answer::BadPack);
-    }
+    sizes_fit(g, storage.len(), cells.len())?;
     if !held_fits(g, h, cells) {
         return Err(Answer::BadHeld);
     }
@@ -170,9 +167,6 @@ fn refuse(h: Held, storage: &mut [u8]) -> Heard
 fn begun(h: Held, key: u8, next: u32) -> Held
     ensures { result ≡ beginning h key next }
 {
-    let position = h.position;
-    let clean = Held::fresh();
-    let orders = clean.orders;
     let channel = Channel {
         going: true,
         key,
@@ -180,36 +174,30 @@ fn begun(h: Held, key: u8, next: u32) -> Held
         after_tic: false,
     };
     Held {
-        position,
-        orders,
+        position: h.position,
         channel,
+        ..Held::fresh()
     }
 }
 
-fn first_word(h: Held, key: u8, next: u32, storage: &mut [u8]) -> Heard
-    requires { least_storage ≤ length storage.old }
-    ensures { (c : List ℕ) → hears result.answer (world result.held storage.new c)
-        ≡ first_word (world h storage.old c) key next (tested storage.old next false) }
+// What is held once the chain has begun, if its first word is one to obey.
+fn first_word(h: Held, key: u8, next: u32, storage: &[u8]) -> Option<Held>
+    ensures { (c : List ℕ) → started (world h storage.now c) result
+        ≡ first_word (world h storage.now c) key next (tested storage.now next false) }
 {
-    match words::test(storage, next, false) {
-        Ok(Directive::Obey(_)) => Heard {
-            answer: Answer::AllowanceUsed,
-            held: begun(h, key, next),
-        },
-        Ok(Directive::Jump(_)) => refuse(h, storage),
-        Err(_) => refuse(h, storage),
-    }
+    let Ok(Directive::Obey(_)) = words::test(storage, next, false) else {
+        return None;
+    };
+    Some(begun(h, key, next))
 }
 
-fn begin(h: Held, storage: &mut [u8]) -> Heard
-    requires { least_storage ≤ length storage.old }
-    ensures { (c : List ℕ) → hears result.answer (world result.held storage.new c)
-        ≡ begins (world h storage.old c) (begun_by storage.old) }
+// The same, if the address word is good too.
+fn begin(h: Held, storage: &[u8]) -> Option<Held>
+    ensures { (c : List ℕ) → started (world h storage.now c) result
+        ≡ begins (world h storage.now c) (begun_by storage.now) }
 {
-    match words::address_word(storage) {
-        Some((key, first)) => first_word(h, key, words::advanced(first, 0), storage),
-        None => refuse(h, storage),
-    }
+    let (key, first) = words::address_word(storage)?;
+    first_word(h, key, words::advanced(first, 0), storage)
 }
 
 // Starts a chain: its first word is tested, and nothing runs.
@@ -217,8 +205,8 @@ pub fn start(g: Shape, h: Held, storage: &mut [u8], cells: &[u16]) -> Heard
     ensures { hears result.answer (world result.held storage.new cells.now)
         ≡ starts g (world h storage.old cells.now) }
 {
-    if let Err(a) = guard(g, h, storage, cells) {
-        return Heard { answer: a, held: h };
+    if let Err(answer) = guard(g, h, storage, cells) {
+        return Heard { answer, held: h };
     }
     if h.channel.going {
         return Heard {
@@ -226,7 +214,13 @@ pub fn start(g: Shape, h: Held, storage: &mut [u8], cells: &[u16]) -> Heard
             held: h,
         };
     }
-    begin(h, storage)
+    match begin(h, storage) {
+        Some(held) => Heard {
+            answer: Answer::AllowanceUsed,
+            held,
+        },
+        None => refuse(h, storage),
+    }
 }
 
 fn told(h: Held) -> Heard
@@ -249,8 +243,8 @@ pub fn go(g: Shape, h: Held, storage: &mut [u8], cells: &mut [u16], allowance: u
     ensures { hears result.answer (world result.held storage.new cells.new)
         ≡ goes g allowance (world h storage.old cells.old) }
 {
-    if let Err(a) = guard(g, h, storage, cells) {
-        return Heard { answer: a, held: h };
+    if let Err(answer) = guard(g, h, storage, cells) {
+        return Heard { answer, held: h };
     }
     if !h.channel.going {
         return Heard {

@@ -51,7 +51,7 @@ pub told_by : (g : Shape) (x : Sight) (a b : Act) (d : Report) → a ≡ b → d
 told_by g x a b d e q = q ∙ ap (λ (z : Act). report_of (act_turn g z x)) (sym e)
 
 -- nothing given: lent bytes stay
-filled_none : (l : List ℕ) (from : ℕ) → l ≡ filled l from []
+pub filled_none : (l : List ℕ) (from : ℕ) → l ≡ filled l from []
 unfolding filled
 filled_none l from = sym (ap (λ (v : List ℕ). overlay l 0 (take (length l) v)) (drop-nil from) ∙ ap (overlay l 0) (take-nil (length l)) ∙ overlay_none l 0)
 

@@ -3,11 +3,11 @@
 
 ghost use Rattle.std.specs.Prelude.{◌≡◌, List, ℕ, Ok};
 ghost use Rattle.cells.specs.Cells.{marks};
-ghost use Rattle.hunt.specs.Hunt.{WholeTrack};
 ghost use Rattle.command.specs.Command.{SelectedOn, Sighted, sight, control_turn, ready_by, ready_of};
 ghost use Rattle.turn.specs.Turn.{Tracks, alone, filled, given, report_of, lay};
 ghost use Rattle.unit.specs.Unit.{job_turn, Accepts};
 
+use cells::Track;
 use command::{Job, Task};
 use held::{Orders, Position};
 use pack::Shape;
@@ -21,37 +21,33 @@ fn read(code: u8, r: Rule, s: Position, o: Orders, k: Task, track: &[u16]) -> Re
 {
     let act = r.act;
     let names = r.names;
-    match sight::get(track, names, k.place) {
-        Ok(counts) => Ok(Job {
-            code,
-            act,
-            names,
-            excepts: r.excepts,
-            clears: r.clears,
-            position: s,
-            orders: o,
-            task: k,
-            counts,
-        }),
-        Err(row) => Err(row),
-    }
+    let counts = sight::get(track, names, k.place)?;
+    Ok(Job {
+        code,
+        act,
+        names,
+        excepts: r.excepts,
+        clears: r.clears,
+        position: s,
+        orders: o,
+        task: k,
+        counts,
+    })
 }
 
 // What a command comes to on the track under the head: a row of the Unit Check table, or a job.
-pub fn ready(code: u8, track: &[u16], s: Position, o: Orders) -> Result<Job, Row>
-    requires { WholeTrack track.now × SelectedOn (marks track.now) o.selection }
+pub fn ready(code: u8, track: &Track, s: Position, o: Orders) -> Result<Job, Row>
+    requires { SelectedOn (marks track.now) o.selection }
     ensures { result ≡ ready_of (alone track.now) s o code }
 {
     let rule = table::rule_of(code);
-    match task::plan(rule, track, s, o) {
-        Err(row) => Err(row),
-        Ok(k) => read(code, rule, s, o, k, track),
-    }
+    let k = task::plan(rule, track, s, o)?;
+    read(code, rule, s, o, k, track)
 }
 
-// What a job reports.
-pub fn ask(g: Shape, j: Job, sent: &[u8], track: &[u16]) -> Report
-    requires { WholeTrack track.now × Sighted (alone track.now) j }
+// What a job reports. That its areas are readable on the track (`Sighted`) stays a requires: it is of two values, and the track is changed without the job.
+pub fn ask(g: Shape, j: Job, sent: &[u8], track: &Track) -> Report
+    requires { Sighted (alone track.now) j }
     ensures { result ≡ report_of (job_turn g track.now j sent.now) }
 {
     let act = j.act;
@@ -82,22 +78,17 @@ pub fn give(j: Job, track: &[u16], from: u32, into: &mut [u8])
     let act = j.act;
     match act {
         Act::Control(k) => give_control(k, j, from, into),
-        Act::Search(_) => {}
         Act::Read(counted) => reads::give(counted, j, track, from, into),
-        Act::Write(_) => {}
+        Act::Search(_) | Act::Write(_) => {}
     }
 }
 
 // The cells that a job lays, if it does not end in Unit Check.
-pub fn lay(j: Job, sent: &[u8], track: &mut [u16])
-    requires { WholeTrack track.old × Sighted (alone track.old) j × Accepts j sent.now track.old }
+pub fn lay(j: Job, sent: &[u8], track: &mut Track)
+    requires { Sighted (alone track.old) j × Accepts j sent.now track.old }
     ensures { (g : Shape) → track.new ≡ lay (job_turn g track.old j sent.now).lays track.old }
 {
-    let act = j.act;
-    match act {
-        Act::Control(_) => {}
-        Act::Search(_) => {}
-        Act::Read(_) => {}
-        Act::Write(w) => writes::lay(w, j, sent, track),
+    if let Act::Write(w) = j.act {
+        writes::lay(w, j, sent, track);
     }
 }

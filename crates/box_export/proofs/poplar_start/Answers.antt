@@ -3,8 +3,7 @@ use Rattle.box_export.proofs.Laws.{start_told, start_wrong}
 use Rattle.box_export.proofs.poplar_start.Goals as goal
 
 pub returns-in-Some : goal.returns-in-Some
-returns-in-Some c =
-    start_told _ _ _ _ _ c.keep.ensures _ c.in-Some.is _ _ _ _ _ _ c.start-heard.ensures c.number_of.ensures c.put.ensures.1
+returns-in-Some c = start_told _ _ _ _ _ c.keep.ensures _ c.in-Some.is _ _ _ _ _ _ c.start.ensures c.tell.ensures.0 c.tell.ensures.1
 
 pub returns-in-None : goal.returns-in-None
-returns-in-None c = start_wrong _ _ _ _ _ c.keep.ensures c.in-None.is _ _ c.wrong_held.ensures c.number_of-in-None.ensures
+returns-in-None c = start_wrong _ _ _ _ _ c.keep.ensures c.in-None.is _ c.refuse.ensures

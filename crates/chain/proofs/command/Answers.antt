@@ -19,4 +19,4 @@ returns c =
     let did = c.obey in
     let at = c.start_of-start in
     let p = c.requires in
-    commanded _ _ _ _ _ p.0 _ _ _ _ at.ensures.0 (omega (arith, at.ensures.1, p.0.whole.count)) p.1 did.ensures did.auto.track
+    commanded _ _ _ _ _ p.0 _ _ _ _ at.ensures.0 (omega (arith, at.ensures.1, p.0.whole.count)) p.1 did.ensures did.auto.cells

@@ -6,7 +6,7 @@ use Rattle.channel.proofs.settle.Goals as goal
 
 pub returns-then-goes_on : goal.returns-then-goes_on
 returns-then-goes_on c =
-    (held_on _ _ _ _ _ _ c.goes_on.ensures c.if-goes_on.true c.stride.ensures c.onward-channel.ensures, storage_on _ _ _ _ _ c.goes_on.ensures c.if-goes_on.true)
+    (held_on _ _ _ _ _ _ c.goes_on.ensures c.if-goes_on.true c.stride.ensures c.onward.ensures, storage_on _ _ _ _ _ c.goes_on.ensures c.if-goes_on.true)
 
 pub store_status-requires : goal.store_status-requires
 store_status-requires c = storable _ _ _ _ _ c.status_after.ensures c.requires.0 c.requires.1

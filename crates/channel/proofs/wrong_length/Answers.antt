@@ -6,7 +6,7 @@ use Rattle.channel.proofs.Laws.{not_counted, suppressed, by_wanted}
 use Rattle.channel.proofs.wrong_length.Goals as goal
 
 pub returns-then-w-ne1 : goal.returns-then-w-ne1
-returns-then-w-ne1 c = by_wanted _ _ _ _ c.length_counts.ensures c.if-length_counts.true c.if-w-ne1.true c.wants.ensures
+returns-then-w-ne1 c = rw c.from.ensures (by_wanted _ _ _ _ c.length_counts.ensures c.if-length_counts.true c.if-w-ne1.true c.wants.ensures)
 
 pub returns-else-w-ne1 : goal.returns-else-w-ne1
 returns-else-w-ne1 c =

@@ -4,4 +4,4 @@ use Rattle.host.proofs.begun.Goals as goal
 
 pub returns : goal.returns
 unfolding beginning
-returns c = rw c.fresh-clean.ensures
+returns c = rw c.fresh.ensures

@@ -1,23 +1,18 @@
 -- `host::guard` meets its contract: 2, 3, then 4.
-use mathlib.Core.Path.{sym, ◌∙◌}
-use borrow.Author.Tests.{not-false}
-use Rattle.host.proofs.Laws.{fits_whole}
-use Rattle.host.proofs.Tells.{guard_2, guard_3, guard_4, guard_passes}
+use Rattle.std.proofs.lemmas.Result.{err_from_is_err_and}
+use Rattle.host.proofs.Laws.{fits_whole, sizes_pass, guard_refused, guard_bad, guard_good}
 use Rattle.host.proofs.guard.Goals as goal
 
-pub returns-then-not-storage_fits : goal.returns-then-not-storage_fits
-returns-then-not-storage_fits c = guard_2 _ _ _ c.storage_fits.ensures c.if-not-storage_fits.true
-
-pub returns-then-not-pack_fits : goal.returns-then-not-pack_fits
-returns-then-not-pack_fits c = guard_3 _ _ _ c.storage_fits.ensures c.if-not-storage_fits.false _ c.pack_fits.ensures c.if-not-pack_fits.true
+pub returns-in_err-sizes_fit : goal.returns-in_err-sizes_fit
+returns-in_err-sizes_fit c =
+    let p = err_from_is_err_and c.from_residual.result c.from_residual.ensures.1 in
+    rw (p.1, p.2) (guard_refused _ _ _ c.sizes_fit.ensures _ c.in_err-sizes_fit.was)
 
 pub held_fits-requires : goal.held_fits-requires
-held_fits-requires c = fits_whole _ _ (sym c.pack_fits.ensures ∙ not-false _ c.if-not-pack_fits.false-raw)
+held_fits-requires c = fits_whole _ _ (sizes_pass _ _ _ _ c.sizes_fit.ensures c.in_ok-sizes_fit.was).1
 
 pub returns-then-not-held_fits : goal.returns-then-not-held_fits
-returns-then-not-held_fits c =
-    guard_4 _ _ _ c.storage_fits.ensures c.if-not-storage_fits.false _ c.pack_fits.ensures c.if-not-pack_fits.false _ (c.held_fits.ensures _) c.if-not-held_fits.true
+returns-then-not-held_fits c = guard_bad _ _ _ c.sizes_fit.ensures c.in_ok-sizes_fit.was _ (c.held_fits.ensures _) c.if-not-held_fits.true
 
 pub returns : goal.returns
-returns c =
-    guard_passes _ _ _ c.storage_fits.ensures c.if-not-storage_fits.false _ c.pack_fits.ensures c.if-not-pack_fits.false _ (c.held_fits.ensures _) c.if-not-held_fits.false
+returns c = guard_good _ _ _ c.sizes_fit.ensures c.in_ok-sizes_fit.was _ (c.held_fits.ensures _) c.if-not-held_fits.false

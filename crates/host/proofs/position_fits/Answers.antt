@@ -3,14 +3,14 @@ use Rattle.cells.proofs.Tests.{tests}
 use Rattle.chain.specs.Step.{position_fits}
 use Rattle.host.proofs.position_fits.Goals as goal
 
-pub returns-then-s-g : goal.returns-then-s-g
+pub returns-then-from-g : goal.returns-then-from-g
 unfolding position_fits
-returns-then-s-g c = search tests
+returns-then-from-g c = rw (← c.from.ensures, ← c.from-cylinder.ensures) (search tests)
 
-pub returns-else-s-g : goal.returns-else-s-g
+pub returns-else-from-g : goal.returns-else-from-g
 unfolding position_fits
-returns-else-s-g c = search tests
+returns-else-from-g c = rw (← c.from.ensures, ← c.from-cylinder.ensures) (search tests)
 
 pub returns-else-cylinder-g : goal.returns-else-cylinder-g
 unfolding position_fits
-returns-else-cylinder-g c = search tests
+returns-else-cylinder-g c = rw (← c.from-cylinder.ensures) (search tests)

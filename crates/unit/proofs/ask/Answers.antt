@@ -7,7 +7,7 @@ use Rattle.unit.proofs.Laws.{told_by}
 use Rattle.unit.proofs.ask.Goals as goal
 
 pub write-requires : goal.write-requires
-write-requires c = writes_by _ _ c.requires.1.act c.requires.1.names c.in-Write.is
+write-requires c = writes_by _ _ c.requires.act c.requires.names c.in-Write.is
 
 pub returns-in-Control : goal.returns-in-Control
 unfolding act_turn
@@ -19,7 +19,7 @@ returns-in-Search c = told_by _ _ _ _ _ c.in-Search.is c.search.ensures
 
 pub returns-in-Read : goal.returns-in-Read
 unfolding act_turn
-returns-in-Read c = told_by _ _ _ _ _ c.in-Read.is (c.read.ensures ∙ told_are _ _ c.requires.1 _ _)
+returns-in-Read c = told_by _ _ _ _ _ c.in-Read.is (c.read.ensures ∙ told_are _ _ c.requires _ _)
 
 pub returns-in-Write : goal.returns-in-Write
 unfolding act_turn

@@ -1,9 +1,12 @@
 -- The areas are those that the row names at the task's place; what they give is the job's counts, or its row.
+use Rattle.std.proofs.lemmas.Result.{err_from_is_err_and}
 use Rattle.unit.proofs.Laws.{all_read_lem, not_read}
 use Rattle.unit.proofs.read.Goals as goal
 
-pub returns-in-Ok : goal.returns-in-Ok
-returns-in-Ok c = all_read_lem _ _ _ _ _ _ _ c.get.ensures _ c.in-Ok.is
+pub returns-in_err-counts : goal.returns-in_err-counts
+returns-in_err-counts c =
+    let p = err_from_is_err_and c.from_residual.result c.from_residual.ensures.1 in
+    rw (p.1, p.2) (not_read _ _ _ _ _ _ _ c.get.ensures _ c.in_err-counts.was)
 
-pub returns-in-Err : goal.returns-in-Err
-returns-in-Err c = not_read _ _ _ _ _ _ _ c.get.ensures _ c.in-Err.is
+pub returns : goal.returns
+returns c = all_read_lem _ _ _ _ _ _ _ c.get.ensures _ c.in_ok-counts.was
