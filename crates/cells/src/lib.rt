@@ -8,6 +8,8 @@ ghost use Rattle.cells.specs.Cells.{byte_of};
 pub const TRACK_END: u16 = 4096;
 // The cells of a track.
 pub const TRACK_CELLS: usize = TRACK_END as usize;
+// A whole track.
+pub type Track = [u16; TRACK_CELLS];
 // The first cell that can hold an address marker.
 pub const FIRST_MARKER: u16 = 7;
 // An address marker.

@@ -16,6 +16,7 @@ use Rattle.turn.specs.Turn.{Tracks, alone}
 use Rattle.std.specs.Prelude.{Some, None, Ok, Err, Result, Option}
 use Rattle.std.specs.Option.{ok_or}
 use Rattle.std.specs.Result.{IsErrAnd}
+use Rattle.std.proofs.lemmas.Result.{err_from_is_err_and}
 
 -- what else is got, where a check found nothing, or its row
 unfoldable pub unless : Result (Unit {0}) Row → Result Counts Row → Result Counts Row
@@ -61,17 +62,17 @@ module _ (t : List ℕ) (h : Head) where
 
     pub key_fails : (row : Row) (g : Result Counts Row) → r ≡ Err row → IsErrAnd g (λ z. z ≡ row) → g ≡ all_named
     unfolding unless
-    key_fails row (Err z) f w =
-        ap Err w ∙ ap (λ y. unless y (unless (checked (both body (ltb 0 n.dl)) t (data_area c n)) (Ok n))) (sym f)
+    key_fails row g f w =
+        let z = err_from_is_err_and g w in
+        z.1 ∙ ap Err z.2 ∙ ap (λ y. unless y (unless (checked (both body (ltb 0 n.dl)) t (data_area c n)) (Ok n))) (sym f)
         ∙ named_first c key body n x (both body (ltb 0 n.dl)) k (data_area c n) r _ p q e refl refl refl
-    key_fails row (Ok z) f w = absurd w
 
     module _ (y : Bool) (d : Area) (s : Result (Unit {0}) Row) (u : y ≡ both body (ltb 0 n.dl)) (v : d ≡ data_area c n) (f : s ≡ checked y t d) where
       pub data_fails : (o : Unit {0}) (row : Row) (g : Result Counts Row) → r ≡ Ok o → s ≡ Err row → IsErrAnd g (λ z. z ≡ row) → g ≡ all_named
       unfolding unless
-      data_fails o row (Err z) a b w =
-          ap Err w ∙ (λ i. unless (sym a i) (unless (sym b i) (Ok n))) ∙ named_first c key body n x y k d r s p q e u v f
-      data_fails o row (Ok z) a b w = absurd w
+      data_fails o row g a b w =
+          let z = err_from_is_err_and g w in
+          z.1 ∙ ap Err z.2 ∙ (λ i. unless (sym a i) (unless (sym b i) (Ok n))) ∙ named_first c key body n x y k d r s p q e u v f
 
       pub named_read : (o m : Unit {0}) → r ≡ Ok o → s ≡ Ok m → Ok n ≡ all_named
       unfolding unless
@@ -100,8 +101,9 @@ module _ (t : List ℕ) (h : Head) (c : ℕ) (key body : Bool) where
   module _ (x : Option Counts) (q : x ≡ read_count t c) where
     pub count_fails : (row : Row) (g : Result Counts Row) → Err row ≡ ok_or x UnreadableCount → IsErrAnd g (λ z. z ≡ row) → g ≡ gets (Names.Count key body) (alone t) h c
     unfolding by_count
-    count_fails row (Err z) e w = ap Err w ∙ ap by_count (e ∙ ap (λ o. ok_or o UnreadableCount) q) ∙ count_first
-    count_fails row (Ok z) e w = absurd w
+    count_fails row g e w =
+        let z = err_from_is_err_and g w in
+        z.1 ∙ ap Err z.2 ∙ ap by_count (e ∙ ap (λ o. ok_or o UnreadableCount) q) ∙ count_first
 
     pub count_reads : (n : Counts) (g : Result Counts Row) → Ok n ≡ ok_or x UnreadableCount → g ≡ all_read (alone t) (on_head h (named c key body n)) (Ok n)
         → g ≡ gets (Names.Count key body) (alone t) h c
@@ -124,8 +126,9 @@ module _ (t : List ℕ) (h : Head) (c : ℕ) (n : Names) where
 
     pub home_fails : (row : Row) (g : Result Counts Row) → r ≡ Err row → IsErrAnd g (λ z. z ≡ row) → g ≡ gets n (alone t) h c
     unfolding unless
-    home_fails row (Err z) f w = ap Err w ∙ ap (λ y. unless y (Ok no_counts)) (sym f) ∙ home_first no_counts refl
-    home_fails row (Ok z) f w = absurd w
+    home_fails row g f w =
+        let z = err_from_is_err_and g w in
+        z.1 ∙ ap Err z.2 ∙ ap (λ y. unless y (Ok no_counts)) (sym f) ∙ home_first no_counts refl
 
     pub home_read : (o : Unit {0}) (k : Counts) → r ≡ Ok o → k ≡ no_counts → Ok k ≡ gets n (alone t) h c
     unfolding unless
