@@ -19,7 +19,7 @@ use Rattle.areas.specs.declared.{Area.Area, Counts.Counts}
 use Rattle.areas.specs.Areas.{readable, area_bytes, row_of, count_area, counts_of, counts_at, read_count}
 use Rattle.hunt.specs.declared.{Spot.Spot}
 use Rattle.hunt.specs.Hunt.{next_id, count_first}
-use Rattle.compare.specs.declared.{Compared.Compared}
+use Rattle.std.specs.declared.cmp.Ordering.{Ordering}
 use Rattle.compare.specs.Compare.{compared}
 use Rattle.compare.proofs.Laws.{compared_same}
 use Rattle.pack.specs.declared.{Shape.Shape}
@@ -74,7 +74,7 @@ id_at-bytes t r =
 
 -- ---- which record satisfies
 
-neither : (b : Bool) → satisfies How.IfEqual (pick b Compared.High Compared.Low) ≡ false
+neither : (b : Bool) → satisfies How.IfEqual (pick b Ordering.Greater Ordering.Less) ≡ false
 unfolding satisfies
 neither true = refl
 neither false = refl
@@ -83,7 +83,7 @@ neither false = refl
 unequal : (x y : ℕ) → (x ≡ y → ⊥) → satisfies How.IfEqual (compared x y) ≡ false
 unfolding compared
 unequal x y h =
-    ap (λ (b : Bool). satisfies How.IfEqual (pick b Compared.Equal (pick (ltb y x) Compared.High Compared.Low))) (ne_eqb x y h) ∙ neither (ltb y x)
+    ap (λ (b : Bool). satisfies How.IfEqual (pick b Ordering.Equal (pick (ltb y x) Ordering.Greater Ordering.Less))) (ne_eqb x y h) ∙ neither (ltb y x)
 
 module _ (t : List ℕ) (x r : Spot) where
   by_numbers : satisfied How.IfEqual (id_at t x) (id_at t r) ≡ satisfies How.IfEqual (compared (number (id_at t x)) (number (id_at t r)))

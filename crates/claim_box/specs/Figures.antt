@@ -11,7 +11,7 @@ use Rattle.rows.specs.Rows.{sense}
 use Rattle.words.specs.Words.{address_word, status_at}
 use Rattle.pack.specs.declared.{Shape.Shape}
 use Rattle.pack.specs.Pack.{cylinder, head, seek_to, seek_head}
-use Rattle.compare.specs.declared.{Compared.Compared}
+use Rattle.std.specs.declared.cmp.Ordering.{Ordering}
 use Rattle.compare.specs.Compare.{compared}
 use Rattle.held.specs.declared.{Position.Position}
 use Rattle.held.specs.Held.{fresh, rested}
@@ -157,7 +157,7 @@ pub record Figures : Type 0 where
   pub seven_head_position : OnFullPack (λ cells. position_left (seek_word cells 202 10) ≡ position_on 100 5 7 0x81 0x00)
   pub seven_head_only : seek_head full_pack (cylinder 202) (head 10) ≡ Err Row.BadSeek
   -- 8. ID 0000000002 on track against 0000000001: high, not equal
-  pub eight : compared (number (0 ∷ 0 ∷ 0 ∷ 0 ∷ 2 ∷ [])) (number (0 ∷ 0 ∷ 0 ∷ 0 ∷ 1 ∷ [])) ≡ Compared.High
+  pub eight : compared (number (0 ∷ 0 ∷ 0 ∷ 0 ∷ 2 ∷ [])) (number (0 ∷ 0 ∷ 0 ∷ 0 ∷ 1 ∷ [])) ≡ Ordering.Greater
   -- at the level of the box: satisfied is the word 16 on, 272; not satisfied the word 8 on, 264
   pub eight_sound : Sound id_two
   pub eight_high : next_of (id_word 0x51 1) ≡ 272

@@ -10,7 +10,7 @@ use Rattle.hunt.specs.declared.{Spot.Spot}
 use Rattle.hunt.specs.Hunt.{spot_fits, count_first, next_record, next_id, space_record}
 use Rattle.room.specs.Room.{fits}
 use Rattle.recording.specs.Recording.{count_sent}
-use Rattle.compare.specs.declared.{Compared.Compared}
+use Rattle.std.specs.declared.cmp.Ordering.{Ordering}
 use Rattle.compare.specs.Compare.{compared}
 use Rattle.pack.specs.declared.{Cylinder.Cylinder, Head.Head, Shape.Shape}
 use Rattle.pack.specs.Pack.{cylinder, head, seek_to, seek_head}
@@ -332,23 +332,23 @@ field_of Names.Nothing n x = []
 field_of Names.HomeAddress n x = drop flag_bytes x.home
 field_of (Names.Count key body) n x = pick key x.key (id_of n.cc n.hh n.r)
 
-unfoldable pub comparison : List ℕ → List ℕ → Compared
+unfoldable pub comparison : List ℕ → List ℕ → Ordering
 comparison f v = compared (number (take (length v) f)) (number (take (length f) v))
 
 -- high means the track's is higher
-unfoldable pub satisfies : How → Compared → Bool
-satisfies How.IfEqual Compared.Low = false
-satisfies How.IfEqual Compared.Equal = true
-satisfies How.IfEqual Compared.High = false
-satisfies How.IfHigh Compared.Low = false
-satisfies How.IfHigh Compared.Equal = false
-satisfies How.IfHigh Compared.High = true
-satisfies How.IfEqualOrHigh Compared.Low = false
-satisfies How.IfEqualOrHigh Compared.Equal = true
-satisfies How.IfEqualOrHigh Compared.High = true
+unfoldable pub satisfies : How → Ordering → Bool
+satisfies How.IfEqual Ordering.Less = false
+satisfies How.IfEqual Ordering.Equal = true
+satisfies How.IfEqual Ordering.Greater = false
+satisfies How.IfHigh Ordering.Less = false
+satisfies How.IfHigh Ordering.Equal = false
+satisfies How.IfHigh Ordering.Greater = true
+satisfies How.IfEqualOrHigh Ordering.Less = false
+satisfies How.IfEqualOrHigh Ordering.Equal = true
+satisfies How.IfEqualOrHigh Ordering.Greater = true
 
 -- a field of no bytes (KL = 0) satisfies nothing
-unfoldable pub satisfies_field : How → Compared → ℕ → Bool
+unfoldable pub satisfies_field : How → Ordering → ℕ → Bool
 satisfies_field h x n = both (ltb 0 n) (satisfies h x)
 
 unfoldable pub equal_only : How → Bool

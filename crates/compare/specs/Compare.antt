@@ -1,18 +1,12 @@
 -- Document 01, "Commands"; REFERENCE 5.3: a search compares the first m bytes as unsigned numbers; high means the track's is higher.
-use Rattle.std.specs.Prelude.{ℕ, ◌+◌, ◌≤◌, List, length, ltb, eqb}
-use Rattle.cells.specs.Cells.{pick, number, part, bytes_of}
--- Compared: Low, Equal or High, as the track's number stands to the one sent.
-use Rattle.compare.specs.declared.{Compared.Compared}
+use Rattle.std.specs.Prelude.{ℕ, List, length, take, ltb, eqb}
+use Rattle.std.specs.declared.cmp.Ordering.{Ordering}
+use Rattle.cells.specs.Cells.{pick, number, bytes_of}
 
--- how the track's number stands to the one sent
-unfoldable pub compared : ℕ → ℕ → Compared
-compared on_track sent = pick (eqb on_track sent) Compared.Equal (pick (ltb sent on_track) Compared.High Compared.Low)
+-- how the track's number stands to the one sent: Less is low, Greater is high
+unfoldable pub compared : ℕ → ℕ → Ordering
+compared on_track sent = pick (eqb on_track sent) Ordering.Equal (pick (ltb sent on_track) Ordering.Greater Ordering.Less)
 
--- m bytes of the track from a cell on, and m of the bytes sent from one on
-unfoldable pub compared_bytes : List ℕ → ℕ → List ℕ → ℕ → ℕ → Compared
-compared_bytes t first v from m = compared (number (bytes_of (part t first m))) (number (part v from m))
-
--- all of them are there
-pub record There (t : List ℕ) (first : ℕ) (v : List ℕ) (from m : ℕ) : Type 0 where
-  pub on_track : first + m ≤ length t
-  pub sent : from + m ≤ length v
+-- the bytes of the cells f and the bytes sent, as many as both have
+unfoldable pub compared_bytes : List ℕ → List ℕ → Ordering
+compared_bytes f v = compared (number (bytes_of (take (length v) f))) (number (take (length f) v))

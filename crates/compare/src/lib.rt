@@ -1,33 +1,27 @@
 // Bytes of a track compared with bytes sent.
 #![tactic(auto)]
 
-ghost use Rattle.std.specs.Prelude.{◌≡◌};
-ghost use Rattle.compare.specs.Compare.{There, compared_bytes};
+ghost use Rattle.std.specs.Prelude.{◌≡◌, map};
+ghost use Rattle.std.specs.Ordering.{nat_cmp};
+ghost use Rattle.std.specs.Cmp.Lexicographic.{slice_cmp};
+ghost use Rattle.cells.specs.Cells.{byte_of};
+ghost use Rattle.compare.specs.Compare.{compared_bytes};
 
-// How the track's number stands to the one sent.
-#[derive(Clone, Copy)]
-pub enum Compared {
-    Low,
-    Equal,
-    High,
+use std::cmp::Ordering;
+
+// The bytes of cells against bytes sent: the first that differs tells.
+fn by_first(on_track: &[u16], sent: &[u8]) -> Ordering
+    ensures { result ≡ slice_cmp nat_cmp (map byte_of on_track.now) sent.now }
+{
+    let bytes = on_track.iter().map(|cell| (cell % 256) as u8);
+    bytes.cmp(sent.iter().copied())
 }
 
-// The first m bytes of a field on the track, against those sent from one on, as unsigned numbers.
-pub fn compare(track: &[u16], first: usize, sent: &[u8], from: usize, m: usize) -> Compared
-    requires { There track.now first sent.now from m }
-    ensures { result ≡ compared_bytes track.now first sent.now from m }
+// A field's bytes on the track against those sent, as unsigned numbers: as many bytes as both have.
+#[tactic(auto, using(crate::proofs::Laws::compared_cut))]
+pub fn compare(field: &[u16], sent: &[u8]) -> Ordering
+    ensures { result ≡ compared_bytes field.now sent.now }
 {
-    let mut j = 0;
-    while j < m {
-        let x = (track[first + j] % 256) as u8;
-        let y = sent[from + j];
-        if x < y {
-            return Compared::Low;
-        }
-        if y < x {
-            return Compared::High;
-        }
-        j += 1;
-    }
-    Compared::Equal
+    let m = field.len().min(sent.len());
+    by_first(&field[..m], &sent[..m])
 }

@@ -7,11 +7,12 @@ use mathlib.Core.List.{List, [], ◌∷◌, ◌++◌, append_assoc}
 use native.Mathlib.Omega.{arith}
 use native.Mathlib.Decide.{dec_le}
 use lib.ListN.{length, get_or, take, drop, length-append, length-drop, drop_of_length-le}
-use lib.Seq.{take_all}
+use lib.Seq.{take-nil}
+use Rattle.std.proofs.lemmas.List.{take_min}
 use lib.Dec.{lit<}
 use borrow.Author.Tests.{eq-eqb, ne_eqb}
 use Rattle.cells.specs.Cells.{pick, both, part, overlay, padded, marker, all_bytes}
-use Rattle.cells.proofs.Laws.{take_min, length-padded, overlay_none, overlay-append}
+use Rattle.cells.proofs.Laws.{length-padded, overlay_none, overlay-append}
 use Rattle.house_check.specs.Check.{cells_with_check}
 use Rattle.house_check.proofs.Cells.{length_laid}
 use Rattle.areas.specs.declared.{Area.Area, Counts.Counts}
@@ -54,9 +55,6 @@ module _ (flag : ℕ) (v : List ℕ) where
 
 -- ---- a part of the bytes sent, as far as they are there
 
-take_there : (m : ℕ) (l : List ℕ) → take (min m (length l)) l ≡ take m l
-take_there m l = sym (take_min m (length l) l) ∙ ap (take m) (take_all (length l) l (omega arith))
-
 pub part_there : (v : List ℕ) (from m start end : ℕ) → start ≡ min from (length v) → end ≡ min (from + m) (length v)
     → take (end - start) (drop start v) ≡ part v from m
 unfolding part
@@ -66,18 +64,14 @@ part_there v from m start end p q = go (dec_le from (length v))
     go (yes h) =
         let s : start ≡ from = omega arith in
         let n : end - start ≡ min m (length (drop from v)) = omega (arith, length-drop from v) in
-        ap₂ (λ (k j : ℕ). take k (drop j v)) n s ∙ take_there m (drop from v)
+        ap₂ (λ (k j : ℕ). take k (drop j v)) n s ∙ take_min m (drop from v)
     go (no h) =
         let far : length v ≤ from = omega arith in
         let end₀ : length v ≤ start = omega arith in
         let none : drop from v ≡ [] = drop_of_length-le v far in
         let s : drop start v ≡ [] = drop_of_length-le v end₀ in
         let n : end - start ≡ 0 = omega arith in
-        ap₂ (λ (k : ℕ) (l : List ℕ). take k l) n s ∙ sym (ap (take m) none ∙ take_none m)
-      where
-        take_none : (k : ℕ) → take {A = ℕ} k [] ≡ []
-        take_none zero = refl
-        take_none (suc k) = refl
+        ap₂ (λ (k : ℕ) (l : List ℕ). take k l) n s ∙ sym (ap (take m) none ∙ take-nil m)
 
 -- ---- a key, if there is one
 

@@ -30,9 +30,9 @@ pub fn lay_area(track: &mut [u16], first: usize, n: usize, bytes: &[u8], from: u
     requires { Lies track.old first n }
     ensures { track.new ≡ area_written track.old first (part bytes.now from m) n }
 {
-    let at = from as usize;
-    let start = cells::lesser(at, bytes.len());
-    let end = cells::lesser(at + m as usize, bytes.len());
+    let at = usize::from(from);
+    let start = at.min(bytes.len());
+    let end = (at + usize::from(m)).min(bytes.len());
     recording::write_area(track, first, &bytes[start..end], n);
 }
 

@@ -2,13 +2,15 @@
 use Prim.Native.Nat.{ℕ, zero, suc, ◌+◌, ◌-◌, ◌<◌, ◌≤◌, min}
 use mathlib.Core.Path.{◌≡◌, refl, sym, ap, ap₂, ◌∙◌, subst}
 use mathlib.Core.List.{List, [], ◌∷◌, ◌++◌}
-use native.Mathlib.Nat.{min_comm, min-eq_left, min-zero}
 use native.Mathlib.Omega.{arith}
-use native.Mathlib.Decide.{dec_lt, dec_le}
+use native.Mathlib.Decide.{dec_lt}
 use lib.ListN.{length, get_or, take, drop, set, length-take, length-drop, length-append}
-use lib.Seq.{take_all, take-nil, drop-nil, drop-drop}
+use lib.Seq.{take-nil, drop-nil}
 use Rattle.cells.specs.Cells.{pick, part, overlay, byte_of, bytes_of}
-use Rattle.cells.proofs.Laws.{length-bytes_of, get_or-bytes_of, take-bytes_of, drop-bytes_of, get_or-part, length-overlay, overlay_none, overlay-two, put_more, take_min}
+use Rattle.cells.proofs.Laws.{length-bytes_of, take-bytes_of, drop-bytes_of, length-overlay, overlay_none, overlay-two}
+use Rattle.std.proofs.lemmas.List.{take_min, drop_min}
+use borrow.Rule.Slice.PartMut.{put_mid}
+use Rattle.recording.proofs.Laws.{map_more, map_all, put_over}
 use Rattle.areas.specs.declared.{Area.Area, Counts.Counts}
 use Rattle.areas.specs.Areas.{key_area, data_area}
 use Rattle.turn.specs.Turn.{filled}
@@ -26,26 +28,17 @@ long t first n h = length-bytes_of (part t first n) ∙ length-take n (drop firs
     go (yes k) = omega (arith, length-drop first t, h.ends k)
     go (no k) = omega arith
 
-pub cells_more : (t : List ℕ) (first m : ℕ) (l : List ℕ) (at i : ℕ) → LieIf t first m → at + m ≤ length l → i < m
-    → set (overlay l at (take i (bytes_of (part t first m)))) (at + i) (byte_of (get_or t (first + i) 0))
-    ≡ overlay l at (take (i + 1) (bytes_of (part t first m)))
-cells_more t first m l at i h k q =
-    let v = bytes_of (part t first m) in
-    ap (set (overlay l at (take i v)) (at + i)) (sym (get_or-bytes_of (part t first m) i ∙ ap byte_of (get_or-part t first m i q)))
-    ∙ put_more l at v i (omega arith) (omega (arith, long t first m h))
+-- the bytes of cells, one after another into lent ones
+pub bytes_more : (d t : List ℕ) (j x : ℕ) → x ≡ byte_of (get_or t j 0) → j < length t → length t ≡ length d
+    → set (take j (bytes_of t) ++ drop j d) j x ≡ take (j + 1) (bytes_of t) ++ drop (j + 1) d
+unfolding bytes_of
+bytes_more = map_more byte_of
 
-pub cells_all : (t : List ℕ) (first m : ℕ) (l : List ℕ) (at i : ℕ) (out : List ℕ) → LieIf t first m → i ≡ m
-    → out ≡ overlay l at (take i (bytes_of (part t first m))) → out ≡ overlay l at (bytes_of (part t first m))
-cells_all t first m l at i out h e p =
-    p ∙ ap (overlay l at) (take_all i (bytes_of (part t first m)) (omega (arith, long t first m h)))
+pub bytes_all : (d t : List ℕ) (j : ℕ) → j ≡ length d → length t ≡ length d → take j (bytes_of t) ++ drop j d ≡ bytes_of t
+unfolding bytes_of
+bytes_all = map_all byte_of
 
--- ---- some left out, of some and of two lists
-
-drop-take : (k n : ℕ) (l : List ℕ) → drop k (take n l) ≡ take (n - k) (drop k l)
-drop-take zero n l = let e : n ≡ n - 0 = omega arith in ap (λ (m : ℕ). take m l) e
-drop-take (suc k) zero l = let e : 0 ≡ 0 - suc k = omega arith in ap (λ (m : ℕ). take m (drop (suc k) l)) e
-drop-take (suc k) (suc n) [] = sym (take-nil (suc n - suc k))
-drop-take (suc k) (suc n) (a ∷ l) = let e : n - k ≡ suc n - suc k = omega arith in drop-take k n l ∙ ap (λ (m : ℕ). take m (drop k l)) e
+-- ---- some left out, of two lists
 
 drop-append : (k : ℕ) (x y : List ℕ) → drop k (x ++ y) ≡ drop k x ++ drop (k - length x) y
 drop-append zero x y = let e : 0 ≡ 0 - length x = omega arith in ap (λ (m : ℕ). x ++ drop m y) e
@@ -53,48 +46,33 @@ drop-append (suc k) [] y = let e : suc k ≡ suc k - length {A = ℕ} [] = omega
 drop-append (suc k) (a ∷ x) y =
     let e : k - length x ≡ suc k - length (a ∷ x) = omega arith in drop-append k x y ∙ ap (λ (m : ℕ). drop k x ++ drop m y) e
 
--- ---- the cells of a part that are put
+-- ---- the cells that are put, of the cells t
 
-less : (from n : ℕ) → n - min from n ≡ n - from
-less from n = omega arith
+module _ (t l : List ℕ) (r : Filling) (skip m : ℕ) (p : skip ≡ min r.from (length t)) (q : m ≡ min (length t - skip) (length l - r.at)) where
+  run : take m (drop skip t) ≡ take (length l - r.at) (drop r.from t)
+  run =
+      let rest : List ℕ = drop r.from t in
+      let n : m ≡ min (length l - r.at) (length rest) = omega (arith, length-drop r.from t) in
+      ap (take m) (ap (λ (k : ℕ). drop k t) p ∙ drop_min r.from t) ∙ ap (λ (k : ℕ). take k rest) n ∙ take_min (length l - r.at) rest
 
-none : (from n : ℕ) → (from ≤ n → ⊥) → n - from ≡ 0
-none from n k = omega arith
-
-module _ (t : List ℕ) (first n : ℕ) (l : List ℕ) (r : Filling) (h : LieIf t first n) (skip m : ℕ) (p : skip ≡ min r.from n)
-    (q : m ≡ min (n - skip) (length l - r.at)) where
-  pub rest-lies : LieIf t (first + skip) m
-  rest-lies = record { ends = λ k. omega (arith, h.ends (omega arith)) }
-
-  same_cells : take m (drop (first + skip) t) ≡ take (min (length l - r.at) (n - r.from)) (drop (first + r.from) t)
-  same_cells = go (dec_le r.from n)
-    where
-      e : m ≡ min (length l - r.at) (n - r.from)
-      e = q ∙ min_comm (n - skip) (length l - r.at) ∙ ap (min (length l - r.at)) (ap (◌-◌ n) p ∙ less r.from n)
-
-      go : Dec (r.from ≤ n) → take m (drop (first + skip) t) ≡ take (min (length l - r.at) (n - r.from)) (drop (first + r.from) t)
-      go (yes k) = ap₂ (λ (x y : ℕ). take x (drop y t)) e (ap (◌+◌ first) (p ∙ min-eq_left k))
-      go (no k) =
-          let z = ap (min (length l - r.at)) (none r.from n k) ∙ min-zero (length l - r.at) in
-          ap (λ (x : ℕ). take x (drop (first + skip) t)) (e ∙ z) ∙ sym (ap (λ (x : ℕ). take x (drop (first + r.from) t)) z)
-
-  run-portion : bytes_of (part t (first + skip) m) ≡ portion l r (bytes_of (part t first n))
-  unfolding part
+  run-portion : bytes_of (take m (drop skip t)) ≡ portion l r (bytes_of t)
   run-portion =
       let room = length l - r.at in
-      ap bytes_of (same_cells ∙ sym (take_min room (n - r.from) (drop (first + r.from) t)))
-      ∙ sym (take-bytes_of room (take (n - r.from) (drop (first + r.from) t)))
-      ∙ ap (λ (x : List ℕ). take room (bytes_of (take (n - r.from) x))) (sym (drop-drop r.from first t))
-      ∙ ap (λ (x : List ℕ). take room (bytes_of x)) (sym (drop-take r.from n (drop first t)))
-      ∙ ap (take room) (sym (drop-bytes_of r.from (take n (drop first t))))
+      ap bytes_of run ∙ sym (take-bytes_of room (drop r.from t)) ∙ ap (take room) (sym (drop-bytes_of r.from t))
 
-  pub run_puts : (out : List ℕ) (x : Filling) → out ≡ overlay l r.at (bytes_of (part t (first + skip) m)) → x.at ≡ r.at + m → x.from ≡ r.from - skip
-      → Puts l r (bytes_of (part t first n)) out x
-  run_puts out x b c d = record {
-    bytes = b ∙ ap (overlay l r.at) run-portion;
-    next = c ∙ ap (λ (k : ℕ). r.at + k) (sym (long t (first + skip) m rest-lies) ∙ ap length run-portion);
-    left = omega (arith, long t first n h);
-  }
+  run_long : length (bytes_of (take m (drop skip t))) ≡ m
+  run_long = omega (arith, length-bytes_of (take m (drop skip t)), length-take m (drop skip t), length-drop skip t)
+
+  -- put behind the first ones
+  pub run_puts : (i k : ℕ) (v : List ℕ) (x : Filling) → i ≡ m → k ≡ m → v ≡ bytes_of (take i (drop skip t)) → x.at ≡ r.at + m → x.from ≡ r.from - skip
+      → Puts l r (bytes_of t) (put_mid r.at k l v) x
+  run_puts i k v x f e g c d =
+      let b : v ≡ bytes_of (take m (drop skip t)) = g ∙ ap (λ (n : ℕ). bytes_of (take n (drop skip t))) f in
+      record {
+        bytes = put_over l r.at k v (e ∙ sym run_long ∙ ap length (sym b)) ∙ ap (overlay l r.at) (b ∙ run-portion);
+        next = c ∙ ap (λ (n : ℕ). r.at + n) (sym run_long ∙ ap length run-portion);
+        left = omega (arith, length-bytes_of t);
+      }
 
 -- ---- one part behind another
 
@@ -132,15 +110,20 @@ module _ (l : List ℕ) (r : Filling) (a mid : List ℕ) (x : Filling) (h : r.at
 pub lies_by : (t : List ℕ) (f g m n : ℕ) → f ≡ g → m ≡ n → LieIf t g n → LieIf t f m
 lies_by t f g m n p q h = record { ends = λ k. omega (arith, h.ends (omega arith)) }
 
+-- the cells u, v and w of the three
 module _ (t : List ℕ) (s : Parts) (c : ℕ) (n : Counts) (k d : Area) (x y z : ℕ) (p : x ≡ pick s.counted 8 0) (q : k ≡ key_area c n)
-    (u : y ≡ pick s.key n.kl 0) (v : d ≡ data_area c n) (w : z ≡ pick s.body n.dl 0) where
-  pub puts_record : (l m o out : List ℕ) (r a b e : Filling) → r.at ≤ length l → Puts l r (bytes_of (part t (c + 1) x)) m a
-      → Puts m a (bytes_of (part t k.first y)) o b → Puts o b (bytes_of (part t d.first z)) out e
-      → Puts l r (record_given t s c n) out e
-  puts_record l m o out r a b e h f g i =
-      subst (λ (all : List ℕ). Puts l r all out e)
-      (λ j. bytes_of (part t (c + 1) (p j)) ++ (bytes_of (part t (q j).first (u j)) ++ bytes_of (part t (v j).first (w j))))
-      (puts_both l r _ m a h f _ out e (puts_both m a _ o b (next_fits l r _ m a h f) g _ out e i))
+    (i : y ≡ pick s.key n.kl 0) (j : d ≡ data_area c n) (o : z ≡ pick s.body n.dl 0) (u v w : List ℕ) (e : u ≡ part t (c + 1) x)
+    (f : v ≡ part t k.first y) (g : w ≡ part t d.first z) where
+  given_are : bytes_of u ++ (bytes_of v ++ bytes_of w) ≡ record_given t s c n
+  given_are =
+      ap₂ (λ (a b : List ℕ). bytes_of a ++ b) e (ap₂ (λ (a b : List ℕ). bytes_of a ++ bytes_of b) f g)
+      ∙ (λ h. bytes_of (part t (c + 1) (p h)) ++ (bytes_of (part t (q h).first (i h)) ++ bytes_of (part t (j h).first (o h))))
+
+  pub puts_record : (l l₁ l₂ out : List ℕ) (r a b x : Filling) → r.at ≤ length l → Puts l r (bytes_of u) l₁ a
+      → Puts l₁ a (bytes_of v) l₂ b → Puts l₂ b (bytes_of w) out x → Puts l r (record_given t s c n) out x
+  puts_record l l₁ l₂ out r a b x h p₁ p₂ p₃ =
+      subst (λ (all : List ℕ). Puts l r all out x) given_are
+      (puts_both l r _ l₁ a h p₁ _ out x (puts_both l₁ a _ l₂ b (next_fits l r _ l₁ a h p₁) p₂ _ out x p₃))
 
 -- ---- all of them
 

@@ -1,8 +1,8 @@
 // The reads: how they end, and the bytes that they give.
 #![tactic(auto)]
 
-ghost use Rattle.std.specs.Prelude.{◌≡◌, List, false, ℕ, ◌+◌, ◌≤◌, length};
-ghost use Rattle.cells.specs.Cells.{pick, overlay, part, bytes_of};
+ghost use Rattle.std.specs.Prelude.{◌≡◌, List, false, ℕ, ◌≤◌, length};
+ghost use Rattle.cells.specs.Cells.{pick, part, bytes_of};
 ghost use Rattle.turn.specs.Turn.{alone, filled, given};
 ghost use Rattle.command.specs.Command.{Sighted, sight, ending_of, read_turn};
 ghost use Rattle.ending.specs.Ending.{report_at};
@@ -20,7 +20,8 @@ const FLAG: u32 = 1;
 
 const COUNT_SENT: u16 = 8;
 
-// Where the next byte goes, and how many bytes are left out before it.
+// Where the next byte goes, and how many bytes are left out before it. The lent bytes go beside it: with them in it, each part would have to take
+// them out and give back what is left of them.
 #[derive(Clone, Copy)]
 struct Filling {
     at: usize,
@@ -42,27 +43,39 @@ fn bytes_if(named: bool, n: u16) -> u16
     if named { n } else { 0 }
 }
 
-// The bytes of so many cells of the track.
-fn put_cells(track: &[u16], first: usize, into: &mut [u8], at: usize, m: usize)
-    requires { LieIf track.now first m × (at + m ≤ length into.old) }
-    ensures { into.new ≡ overlay into.old at (bytes_of (part track.now first m)) }
+// So many cells of the track from one on. Where there are none, that one may lie behind the track.
+#[tactic(auto, unfolding(cells::specs::Cells::part))]
+fn cells_at(track: &[u16], first: u32, n: u16) -> &[u16]
+    requires { LieIf track.now first n }
+    ensures { result.now ≡ part track.now first n }
 {
-    let mut i = 0;
-    while i < m {
-        into[at + i] = (track[first + i] % 256) as u8;
-        i += 1;
+    if n == 0 {
+        return &[];
+    }
+    let first = first as usize;
+    &track[first..first + usize::from(n)]
+}
+
+// The bytes of as many cells.
+#[tactic(auto, using(crate::proofs::Laws::bytes_more, crate::proofs::Laws::bytes_all))]
+fn put_cells(cells: &[u16], into: &mut [u8])
+    requires { length cells.now ≡ length into.old }
+    ensures { into.new ≡ bytes_of cells.now }
+{
+    for (i, byte) in into.iter_mut().enumerate() {
+        *byte = (cells[i] % 256) as u8;
     }
 }
 
-// The bytes of so many cells, but those left out, as many as find room.
-fn put(track: &[u16], first: u32, n: u16, r: Filling, into: &mut [u8]) -> Filling
-    requires { LieIf track.now first n × (r.at ≤ length into.old) }
-    ensures { Puts into.old r (bytes_of (part track.now first n)) into.new result }
+// The bytes of cells, but those left out, as many as find room.
+fn put(cells: &[u16], r: Filling, into: &mut [u8]) -> Filling
+    requires { r.at ≤ length into.old }
+    ensures { Puts into.old r (bytes_of cells.now) into.new result }
 {
     let at = r.at;
-    let skip = cells::lesser(r.from, n as usize);
-    let m = cells::lesser(n as usize - skip, into.len() - at);
-    put_cells(track, first as usize + skip, into, at, m);
+    let skip = r.from.min(cells.len());
+    let m = (cells.len() - skip).min(into.len() - at);
+    put_cells(&cells[skip..skip + m], &mut into[at..at + m]);
     Filling {
         at: at + m,
         from: r.from - skip,
@@ -74,17 +87,14 @@ fn put_record(p: Parts, c: u16, n: Counts, track: &[u16], r: Filling, into: &mut
     requires { LieAll track.now p c n × (r.at ≤ length into.old) }
     ensures { Puts into.old r (record_given track.now p c n) into.new result }
 {
-    let count = put(
-        track,
-        c as u32 + FLAG,
-        bytes_if(p.counted, COUNT_SENT),
-        r,
-        into,
-    );
+    let count = cells_at(track, u32::from(c) + FLAG, bytes_if(p.counted, COUNT_SENT));
+    let counted = put(count, r, into);
     let keys = areas::key_area(c, n);
-    let keyed = put(track, keys.first, bytes_if(p.key, n.kl as u16), count, into);
+    let key = cells_at(track, keys.first, bytes_if(p.key, u16::from(n.kl)));
+    let keyed = put(key, counted, into);
     let data = areas::data_area(c, n);
-    put(track, data.first, bytes_if(p.body, n.dl), keyed, into)
+    let body = cells_at(track, data.first, bytes_if(p.body, n.dl));
+    put(body, keyed, into)
 }
 
 // The bytes that a read gives, from one on, as many as find room.
@@ -101,7 +111,7 @@ pub fn give(counted: bool, j: Job, track: &[u16], from: u32, into: &mut [u8])
     match names {
         Names::Nothing => {}
         Names::HomeAddress => {
-            put(track, 0, HOME_BYTES, r, into);
+            put(cells_at(track, 0, HOME_BYTES), r, into);
         }
         Names::Count(key, body) => {
             let p = Parts { counted, key, body };

@@ -1,107 +1,87 @@
--- Laws for the loops that record: one byte more, zeros behind the bytes, the check behind them, one gap more.
-use Prim.Native.Nat.{ℕ, zero, suc, ◌+◌, ◌-◌, ◌/◌, ◌%◌, ◌<◌, ◌≤◌, min}
-use mathlib.Core.Path.{◌≡◌, refl, sym, ap, ◌∙◌}
-use mathlib.Core.List.{List, [], ◌∷◌, ◌++◌, map, map-append, append-nil}
+-- Laws of what is recorded: cells as bytes are recorded in them, zeros behind the bytes, the check behind them, gaps to the end.
+use Prim.Native.Nat.{ℕ, zero, suc, ◌+◌, ◌-◌, ◌/◌, ◌%◌, ◌<◌, min}
+use mathlib.Core.Path.{◌≡◌, refl, sym, ap, ap₂, ◌∙◌}
+use mathlib.Core.List.{List, [], ◌∷◌, ◌++◌, map, map-append, append-nil, append_assoc}
 use native.Mathlib.Numerals.{add-one, unary_clauses}
 use native.Mathlib.Omega.{arith}
-use lib.ListN.{length, get_or, set, length-set, length-map}
-use lib.Seq.{sets-eq, take-suc-set, take_all, append_snoc}
-use Rattle.cells.specs.Cells.{part, overlay, padded, cell_of, bytes_of, cells_of}
-use Rattle.cells.proofs.Laws.{overlay_none, overlay-snoc, overlay-append, part-overlay, length-padded, padded-snoc}
+use lib.ListN.{length, get_or, take, drop, set, replicate, length-map, length-append, length-drop, length-take, drop_of_length-le}
+use lib.Seq.{take_all, drop-drop, take-append_seam}
+use borrow.Rule.Slice.PartMut.{put_mid}
+use Rattle.std.proofs.lemmas.List.{take_min}
+use Rattle.cells.specs.Cells.{overlay, padded, cell_of, bytes_of, cells_of}
+use Rattle.cells.proofs.Laws.{length-padded}
 use Rattle.cells.proofs.Numbers.{Bytes}
 use Rattle.house_check.specs.Check.{check, sixteen, with_check, cells_with_check}
 use Rattle.house_check.proofs.Cells.{cells_bytes}
 use Rattle.recording.specs.Recording.{area_written, count_written, wiped}
 
-pub length-cells_of : (v : List ℕ) → length (cells_of v) ≡ length v
+length-cells_of : (v : List ℕ) → length (cells_of v) ≡ length v
 unfolding cells_of
 length-cells_of v = length-map v cell_of
 
--- bytes recorded behind others
-behind : (t : List ℕ) (first : ℕ) (v : List ℕ) (n : ℕ) (w : List ℕ) → length v ≡ n → first + n + length w ≤ length t
-    → overlay (overlay t first (cells_of v)) (first + n) (cells_of w) ≡ overlay t first (cells_of (v ++ w))
+-- ---- one after another: of the cells or bytes d, one more is what f makes of v's
+
+one_more : (f : ℕ → ℕ) (d v : List ℕ) (j : ℕ) → j < length v → length v ≡ length d
+    → set (take j (map f v) ++ drop j d) j (f (get_or v j 0)) ≡ take (suc j) (map f v) ++ drop (suc j) d
+one_more f d [] j h l = absurd (omega arith)
+one_more f [] (b ∷ v) j h l = absurd (omega arith)
+one_more f (a ∷ d) (b ∷ v) zero h l = refl
+one_more f (a ∷ d) (b ∷ v) (suc j) h l = ap (λ (t : List ℕ). f b ∷ t) (one_more f d v j (omega arith) (omega arith))
+
+pub map_more : (f : ℕ → ℕ) (d v : List ℕ) (j x : ℕ) → x ≡ f (get_or v j 0) → j < length v → length v ≡ length d
+    → set (take j (map f v) ++ drop j d) j x ≡ take (j + 1) (map f v) ++ drop (j + 1) d
+map_more f d v j x e h l = rw (e, add-one j) (one_more f d v j h l)
+
+pub map_all : (f : ℕ → ℕ) (d v : List ℕ) (j : ℕ) → j ≡ length d → length v ≡ length d → take j (map f v) ++ drop j d ≡ map f v
+map_all f d v j e l =
+    rw (take_all j (map f v) (omega (arith, length-map v f)), drop_of_length-le d {i = j} (omega arith)) (append-nil (map f v))
+
+-- ---- bytes recorded
+
+pub record_more : (d v : List ℕ) (j x : ℕ) → x ≡ cell_of (get_or v j 0) → j < length v → length v ≡ length d
+    → set (take j (cells_of v) ++ drop j d) j x ≡ take (j + 1) (cells_of v) ++ drop (j + 1) d
 unfolding cells_of
-behind t first v n w e h =
-    let l : length (cells_of v) ≡ n = length-cells_of v ∙ e in
-    ap (λ (k : ℕ). overlay (overlay t first (cells_of v)) (first + k) (cells_of w)) (sym l)
-    ∙ overlay-append t first (cells_of v) (cells_of w) (omega (arith, length-cells_of w)) ∙ ap (overlay t first) (sym (map-append cell_of v w))
+record_more = map_more cell_of
 
--- ---- bytes recorded one after another
-
-cells_snoc : (n : ℕ) (v : List ℕ) → cells_of (padded (n + 1) v) ≡ cells_of (padded n v) ++ (cell_of (get_or v n 0) ∷ [])
+pub record_all : (d v : List ℕ) (j : ℕ) → j ≡ length d → length v ≡ length d → take j (cells_of v) ++ drop j d ≡ cells_of v
 unfolding cells_of
-cells_snoc n v = ap (λ (k : ℕ). map cell_of (padded k v)) (add-one n) ∙ ap (map cell_of) (padded-snoc n v) ∙ map-append cell_of (padded n v) (get_or v n 0 ∷ [])
+record_all = map_all cell_of
 
-record_more : (t : List ℕ) (first : ℕ) (v : List ℕ) (j : ℕ) → first + j < length t
-    → set (overlay t first (cells_of (padded j v))) (first + j) (cell_of (get_or v j 0)) ≡ overlay t first (cells_of (padded (j + 1) v))
-record_more t first v j h =
-    let n : length (cells_of (padded j v)) ≡ j = length-cells_of (padded j v) ∙ length-padded j v in
-    let k = overlay-snoc t first (cells_of (padded j v)) (cell_of (get_or v j 0)) (omega arith) in
-    ap (λ (m : ℕ). set (overlay t first (cells_of (padded j v))) (first + m) (cell_of (get_or v j 0))) (sym n)
-    ∙ k ∙ ap (overlay t first) (sym (cells_snoc j v))
+-- the bytes that are there, then zeros
+zeros : (n : ℕ) → replicate n 256 ≡ cells_of (padded n [])
+unfolding cells_of padded
+zeros zero = refl
+zeros (suc n) = ap (λ (t : List ℕ). 256 ∷ t) (zeros n)
 
--- a loop on its way: of n bytes of v, the first j are laid over the track as it was
-pub record Recorded (t : List ℕ) (first : ℕ) (v : List ℕ) (n : ℕ) (track : List ℕ) (j : ℕ) : Type 0 where
-  pub laid_over : track ≡ overlay t first (cells_of (padded j v))
-  pub as_long : length track ≡ length t
-  pub within : j ≤ n
+record_padded : (n m : ℕ) (v : List ℕ) → m ≡ min n (length v) → cells_of (take m v) ++ replicate (n - m) 256 ≡ cells_of (padded n v)
+unfolding cells_of padded
+record_padded zero zero v e = refl
+record_padded zero (suc m) v e = absurd (omega arith)
+record_padded (suc n) zero [] e = simp unary_clauses (zeros (suc n))
+record_padded (suc n) zero (b ∷ v) e = absurd (omega arith)
+record_padded (suc n) (suc m) [] e = absurd (omega arith)
+record_padded (suc n) (suc m) (b ∷ v) e = simp unary_clauses (ap (λ (t : List ℕ). cell_of b ∷ t) (record_padded n m v (omega arith)))
 
-module _ (t : List ℕ) (first : ℕ) (v : List ℕ) (n : ℕ) where
-  pub recorded_none : Recorded t first v n t 0
-  unfolding padded cells_of
-  recorded_none = record { laid_over = sym (overlay_none t first); as_long = refl; within = omega arith }
+pub record_both : (n m : ℕ) (v x y : List ℕ) → x ≡ cells_of (take m v) → m ≡ min n (length v) → y ≡ replicate (n - m) 256
+    → x ++ y ≡ cells_of (padded n v)
+record_both n m v x y p e q = ap₂ (λ (a b : List ℕ). a ++ b) p q ∙ record_padded n m v e
 
-  pub recorded_more : (track : List ℕ) (j x : ℕ) → first + n ≤ length t → j < n → x ≡ cell_of (get_or v j 0)
-      → Recorded t first v n track j → Recorded t first v n (set track (first + j) x) (j + 1)
-  recorded_more track j x h k e r =
-      record {
-        laid_over = rw (r.laid_over, e) (record_more t first v j (omega arith));
-        as_long = simp length-set r.as_long;
-        within = omega arith;
-      }
+-- ---- the check
 
-  pub recorded_all : (track : List ℕ) (j : ℕ) → n ≤ j → Recorded t first v n track j → track ≡ overlay t first (cells_of (padded n v))
-  recorded_all track j h r = let e : n ≡ j = omega arith in rw e r.laid_over
+pub check_put : (l : List ℕ) (n s x : ℕ) → length l ≡ n + 2 → s ≡ x
+    → set (set l n (256 + s / 256)) (n + 1) (256 + s % 256) ≡ take n l ++ cells_of (sixteen x)
+unfolding cells_of
+check_put l n s x h e = rw (e, add-one n) (go l n h)
+  where
+    go : (l : List ℕ) (n : ℕ) → length l ≡ n + 2
+        → set (set l n (256 + x / 256)) (suc n) (256 + x % 256) ≡ take n l ++ ((256 + x / 256) ∷ (256 + x % 256) ∷ [])
+    go [] n h = absurd (omega arith)
+    go (a ∷ []) n h = absurd (omega arith)
+    go (a ∷ b ∷ []) zero h = refl
+    go (a ∷ b ∷ c ∷ l) zero h = absurd (omega arith)
+    go (a ∷ b ∷ l) (suc n) h = ap (λ (t : List ℕ). a ∷ t) (go (b ∷ l) n (omega arith))
 
--- bytes with zeros for those that are missing: those that are there, then zeros
-padded-parts : (n m : ℕ) (v : List ℕ) → m ≡ min n (length v) → padded m v ++ padded (n - m) [] ≡ padded n v
-unfolding padded
-padded-parts zero zero v e = refl
-padded-parts zero (suc m) v e = absurd (omega arith)
-padded-parts (suc n) zero [] e = simp unary_clauses
-padded-parts (suc n) zero (b ∷ v) e = absurd (omega arith)
-padded-parts (suc n) (suc m) [] e = absurd (omega arith)
-padded-parts (suc n) (suc m) (b ∷ v) e = simp unary_clauses (ap (λ (x : List ℕ). b ∷ x) (padded-parts n m v (omega arith)))
-
-pub given_then_zeros : (t : List ℕ) (first : ℕ) (v : List ℕ) (n m : ℕ) (t₁ t₂ : List ℕ) → first + n ≤ length t → m ≡ min n (length v)
-    → t₁ ≡ overlay t first (cells_of (padded m v)) → t₂ ≡ overlay t₁ (first + m) (cells_of (padded (n - m) []))
-    → t₂ ≡ overlay t first (cells_of (padded n v))
-given_then_zeros t first v n m t₁ t₂ h k e f =
-    f ∙ ap (λ (x : List ℕ). overlay x (first + m) (cells_of (padded (n - m) []))) e
-    ∙ behind t first (padded m v) m (padded (n - m) []) (length-padded m v) (omega (arith, length-padded (n - m) []))
-    ∙ ap (λ (x : List ℕ). overlay t first (cells_of x)) (padded-parts n m v k)
-
--- ---- the check behind the bytes
-
-pub check_put : (t : List ℕ) (p x : ℕ) → p + 2 ≤ length t → set (set t p (256 + x / 256)) (p + 1) (256 + x % 256) ≡ overlay t p (cells_of (sixteen x))
-unfolding overlay cells_of
-check_put t p x h = rw add-one (sets-eq ((256 + x / 256) ∷ (256 + x % 256) ∷ []) t p h)
-
--- bytes recorded and then their check: the area is laid
-pub check-behind : (t : List ℕ) (first : ℕ) (w : List ℕ) (n : ℕ) → length w ≡ n → Bytes w → first + n + 2 ≤ length t
-    → overlay (overlay t first (cells_of w)) (first + n) (cells_of (sixteen (check (bytes_of (part (overlay t first (cells_of w)) first n)))))
-    ≡ overlay t first (cells_with_check w)
-unfolding cells_with_check with_check cells_of
-check-behind t first w n e b h =
-    let l : length (cells_of w) ≡ n = length-cells_of w ∙ e in
-    let back : bytes_of (part (overlay t first (cells_of w)) first n) ≡ w =
-    ap (λ (k : ℕ). bytes_of (part (overlay t first (cells_of w)) first k)) (sym l)
-    ∙ ap bytes_of (part-overlay t first (cells_of w) (omega arith)) ∙ cells_bytes w b in
-    ap (λ (x : List ℕ). overlay (overlay t first (cells_of w)) (first + n) (cells_of (sixteen (check x)))) back
-    ∙ behind t first w n (sixteen (check w)) e (omega arith)
-
--- ---- whole areas, by what each call left
-
+-- bytes stay bytes
 pub padded-bytes : (n : ℕ) (v : List ℕ) → Bytes v → Bytes (padded n v)
 unfolding padded
 padded-bytes zero v h i = omega arith
@@ -110,43 +90,71 @@ padded-bytes (suc n) [] h (suc i) = padded-bytes n [] h i
 padded-bytes (suc n) (b ∷ v) h zero = h 0
 padded-bytes (suc n) (b ∷ v) h (suc i) = padded-bytes n v (λ j. h (suc j)) i
 
-module _ (t : List ℕ) (first : ℕ) (v : List ℕ) (bytes : Bytes v) where
-  -- the cells of n bytes w, then their check
-  then_check : (w t₁ t₂ : List ℕ) (n : ℕ) → length w ≡ n → Bytes w → first + n + 2 ≤ length t → t₁ ≡ overlay t first (cells_of w)
-      → t₂ ≡ overlay t₁ (first + n) (cells_of (sixteen (check (bytes_of (part t₁ first n))))) → t₂ ≡ overlay t first (cells_with_check w)
-  then_check w t₁ t₂ n l b h e f =
-      f ∙ ap (λ (x : List ℕ). overlay x (first + n) (cells_of (sixteen (check (bytes_of (part x first n)))))) e ∙ check-behind t first w n l b h
+-- ---- whole areas and gaps, put into the track
 
-  pub area_laid : (n : ℕ) (t₁ t₂ : List ℕ) → first + n + 2 ≤ length t → t₁ ≡ overlay t first (cells_of (padded n v))
-      → t₂ ≡ overlay t₁ (first + n) (cells_of (sixteen (check (bytes_of (part t₁ first n))))) → t₂ ≡ area_written t first v n
+-- cells put in place of as many
+pub put_over : (l : List ℕ) (at k : ℕ) (v : List ℕ) → k ≡ length v → put_mid at k l v ≡ overlay l at v
+unfolding overlay
+put_over l at k v e =
+    ap (λ (x : List ℕ). take at l ++ (v ++ x)) (ap (λ (n : ℕ). drop n (drop at l)) e ∙ drop-drop (length v) at l)
+    ∙ sym (append_assoc (take at l) v (drop (at + length v) l))
+
+put_area : (t : List ℕ) (first k : ℕ) (w : List ℕ) → Bytes w → k ≡ length w + 2
+    → put_mid first k t (cells_of w ++ cells_of (sixteen (check (bytes_of (cells_of w))))) ≡ overlay t first (cells_with_check w)
+unfolding cells_with_check with_check cells_of
+put_area t first k w b e =
+    let x : List ℕ = sixteen (check (bytes_of (cells_of w))) in
+    put_over t first k (cells_of w ++ cells_of x) (omega (arith, length-append (cells_of w) (cells_of x), length-cells_of w, length-cells_of x))
+    ∙ ap (overlay t first) (ap (λ (y : List ℕ). cells_of w ++ cells_of (sixteen (check y))) (cells_bytes w b) ∙ sym (map-append cell_of w (sixteen (check w))))
+
+-- an area b of bytes w and two cells more, and the same with the check in these
+abbrev checked : List ℕ → List ℕ
+checked b = let v : List ℕ = take (length b - 2) b in v ++ cells_of (sixteen (check (bytes_of v)))
+
+put_checked : (t : List ℕ) (first k : ℕ) (w d b c : List ℕ) → Bytes w → k ≡ length w + 2 → length d ≡ 2 → b ≡ cells_of w ++ d → c ≡ checked b
+    → put_mid first k t c ≡ overlay t first (cells_with_check w)
+put_checked t first k w d b c h e l p q =
+    let n : length (cells_of w ++ d) - 2 ≡ length (cells_of w) = omega (arith, length-append (cells_of w) d) in
+    let seam : take (length b - 2) b ≡ cells_of w =
+    ap (λ (x : List ℕ). take (length x - 2) x) p ∙ ap (λ (m : ℕ). take m (cells_of w ++ d)) n ∙ take-append_seam (cells_of w) d in
+    ap (put_mid first k t) (q ∙ ap (λ (v : List ℕ). v ++ cells_of (sixteen (check (bytes_of v)))) seam) ∙ put_area t first k w h e
+
+-- the flag, and the bytes sent behind it
+flag_then : (flag : ℕ) (v : List ℕ) → flag < 256 → Bytes v → Bytes (flag ∷ padded 8 v)
+flag_then flag v f h zero = f
+flag_then flag v f h (suc i) = padded-bytes 8 v h i
+
+flag_behind : (a r v : List ℕ) (flag x : ℕ) → length a ≡ 11 → x ≡ cell_of flag → r ≡ cells_of (padded (length (take 8 (drop 1 (set a 0 x)))) v)
+    → (put_mid 1 8 (set a 0 x) r ≡ cells_of (flag ∷ padded 8 v) ++ drop 8 (drop 1 (set a 0 x))) × (length (drop 8 (drop 1 (set a 0 x))) ≡ 2)
+unfolding cells_of
+flag_behind [] r v flag x l e p = absurd (omega arith)
+flag_behind (y ∷ a) r v flag x l e p =
+    let n : length (take 8 a) ≡ 8 = omega (arith, length-take 8 a) in (
+      ap₂ (λ (z : ℕ) (u : List ℕ). z ∷ (u ++ drop 8 a)) e (p ∙ ap (λ (m : ℕ). cells_of (padded m v)) n),
+      omega (arith, length-drop 8 a),
+    )
+
+module _ (t : List ℕ) (first k : ℕ) (v : List ℕ) (h : Bytes v) (a r c : List ℕ) where
+  pub area_laid : (n : ℕ) → length a ≡ n + 2 → k ≡ n + 2 → r ≡ cells_of (padded (length (take n a)) v) → c ≡ checked (r ++ drop n a)
+      → put_mid first k t c ≡ area_written t first v n
   unfolding area_written
-  area_laid n t₁ t₂ h = then_check (padded n v) t₁ t₂ n (length-padded n v) (padded-bytes n v bytes) h
+  area_laid n l e p =
+      let m : length (take n a) ≡ n = omega (arith, length-take n a) in
+      put_checked t first k (padded n v) (drop n a) _ c (padded-bytes n v h) (omega (arith, length-padded n v)) (omega (arith, length-drop n a))
+      (ap (λ (x : List ℕ). x ++ drop n a) (p ∙ ap (λ (i : ℕ). cells_of (padded i v)) m))
 
-  pub count_laid : (flag : ℕ) (t₁ t₂ t₃ : List ℕ) → flag < 256 → first + 9 + 2 ≤ length t → t₁ ≡ overlay t first (cells_of (flag ∷ []))
-      → t₂ ≡ overlay t₁ (first + 1) (cells_of (padded 8 v))
-      → t₃ ≡ overlay t₂ (first + 9) (cells_of (sixteen (check (bytes_of (part t₂ first 9))))) → t₃ ≡ count_written t first flag v
+  pub count_laid : (flag x : ℕ) → flag < 256 → length a ≡ 11 → k ≡ 11 → x ≡ cell_of flag
+      → r ≡ cells_of (padded (length (take 8 (drop 1 (set a 0 x)))) v) → c ≡ checked (put_mid 1 8 (set a 0 x) r)
+      → put_mid first k t c ≡ count_written t first flag v
   unfolding count_written
-  count_laid flag t₁ t₂ t₃ k h e f g =
-      let l : length (padded 8 v) ≡ 8 = length-padded 8 v in
-      let j : t₂ ≡ overlay t first (cells_of (flag ∷ padded 8 v)) =
-      f ∙ ap (λ (x : List ℕ). overlay x (first + 1) (cells_of (padded 8 v))) e
-      ∙ behind t first (flag ∷ []) 1 (padded 8 v) refl (omega arith) in
-      then_check (flag ∷ padded 8 v) t₂ t₃ 9 (ap suc l) (first_byte k) h j g
-    where
-      first_byte : flag < 256 → Bytes (flag ∷ padded 8 v)
-      first_byte k zero = k
-      first_byte k (suc i) = padded-bytes 8 v bytes i
+  count_laid flag x f l e i p =
+      let b = flag_behind a r v flag x l i p in
+      put_checked t first k (flag ∷ padded 8 v) _ _ c (flag_then flag v f h) (omega (arith, length-padded 8 v)) b.1 b.0
 
--- ---- gaps to the end
-
-pub wiped-step : (t : List ℕ) (i : ℕ) → i < length t → wiped t i ≡ wiped (set t i 0) (i + 1)
+pub wiped_put : (t : List ℕ) (from a k : ℕ) → a ≡ min from (length t) → k ≡ length t - a → put_mid a k t (replicate k 0) ≡ wiped t from
 unfolding wiped
-wiped-step t i h =
-    let n : length t - i ≡ suc (length t - suc i) = omega arith in
-    rw (add-one, take-suc-set t i 0 h, length-set, n, append_snoc)
-
-pub wiped_end : (t : List ℕ) (i : ℕ) → length t ≤ i → wiped t i ≡ t
-unfolding wiped
-wiped_end t i h =
-    let n : length t - i ≡ 0 = omega arith in
-    rw (take_all i t h, n, append-nil)
+wiped_put t from a k e f =
+    let n : k ≡ length t - from = omega arith in
+    ap (λ (x : List ℕ). take a t ++ (replicate k 0 ++ x)) (drop_of_length-le (drop a t) {i = k} (omega (arith, length-drop a t)))
+    ∙ ap (λ (x : List ℕ). take a t ++ x) (append-nil (replicate k 0))
+    ∙ ap₂ (λ (x : List ℕ) (m : ℕ). x ++ replicate m 0) (ap (λ (m : ℕ). take m t) e ∙ take_min from t) n

@@ -1,76 +1,57 @@
 // Areas recorded on a track with their checks, and gaps to a track's end.
 #![tactic(auto)]
 
-ghost use Rattle.std.specs.Prelude.{◌≡◌, [], ◌∷◌, ◌+◌, ◌<◌, ◌≤◌, length};
-ghost use Rattle.cells.specs.Cells.{overlay, part, padded, bytes_of, cells_of, cell_of};
-ghost use Rattle.house_check.specs.Check.{sixteen, check};
+ghost use Rattle.std.specs.Prelude.{◌≡◌, ◌++◌, ◌-◌, ◌≤◌, length, take};
+ghost use Rattle.cells.specs.Cells.{padded, bytes_of, cells_of, cell_of};
+ghost use Rattle.house_check.specs.Check.{sixteen, check, check_bytes};
 ghost use Rattle.recording.specs.Recording.{area_written, count_written, wiped, Lies};
+
+use areas::CHECK_CELLS;
 
 // The cell that records a zero; a byte b is recorded as b more.
 const ZERO: u16 = 256;
-// The bytes of a count area, without its check, and those that are sent, without the flag.
-const COUNT_BYTES: usize = areas::COUNT_BYTES as usize;
 
-const COUNT_SENT: usize = COUNT_BYTES - 1;
+const GAP: u16 = 0;
+// The bytes of a count area, without its check: the flag and those that are sent.
+const COUNT_BYTES: usize = areas::COUNT_BYTES as usize;
 
 // The cell that records a byte.
 fn cell_of(b: u8) -> u16
     ensures { result ≡ cell_of b }
 {
-    ZERO + b as u16
+    ZERO + u16::from(b)
 }
 
-// One byte recorded in a cell.
-fn record_byte(track: &mut [u16], at: usize, b: u8)
-    requires { at < length track.old }
-    ensures { track.new ≡ overlay track.old at (cells_of (b ∷ [])) }
+// As many bytes as cells, recorded in them. The loop tests no byte, so the compiler makes it wide.
+#[tactic(auto, using(crate::proofs::Laws::record_more, crate::proofs::Laws::record_all))]
+fn record_given(area: &mut [u16], bytes: &[u8])
+    requires { length bytes.now ≡ length area.old }
+    ensures { area.new ≡ cells_of bytes.now }
 {
-    track[at] = cell_of(b);
-}
-
-// So many bytes, all of them there, recorded from a cell on. The loop tests no byte, so the compiler makes it wide.
-fn record_given(track: &mut [u16], first: usize, bytes: &[u8], m: usize)
-    requires { (first + m ≤ length track.old) × (m ≤ length bytes.now) }
-    ensures { track.new ≡ overlay track.old first (cells_of (padded m bytes.now)) }
-{
-    let mut j = 0;
-    while j < m {
-        track[first + j] = cell_of(bytes[j]);
-        j += 1;
+    for (j, cell) in area.iter_mut().enumerate() {
+        *cell = cell_of(bytes[j]);
     }
 }
 
-// So many zeros recorded from a cell on.
-fn record_zeros(track: &mut [u16], first: usize, n: usize)
-    requires { first + n ≤ length track.old }
-    ensures { track.new ≡ overlay track.old first (cells_of (padded n [])) }
+// Bytes recorded in all cells of an area: those that are there, then zeros.
+fn record_bytes(area: &mut [u16], bytes: &[u8])
+    ensures { area.new ≡ cells_of (padded (length area.old) bytes.now) }
 {
-    let mut j = 0;
-    while j < n {
-        track[first + j] = ZERO;
-        j += 1;
-    }
+    let m = area.len().min(bytes.len());
+    let (given, missing) = area.split_at_mut(m);
+    record_given(given, &bytes[..m]);
+    missing.fill(ZERO);
 }
 
-// So many bytes recorded from a cell on: those that are there, then zeros.
-fn record_bytes(track: &mut [u16], first: usize, bytes: &[u8], n: usize)
-    requires { first + n ≤ length track.old }
-    ensures { track.new ≡ overlay track.old first (cells_of (padded n bytes.now)) }
+// The check of an area's bytes, recorded in its last two cells.
+fn record_check(area: &mut [u16])
+    requires { check_bytes ≤ length area.old }
+    ensures { let bytes = take (length area.old - check_bytes) area.old in area.new ≡ bytes ++ cells_of (sixteen (check (bytes_of bytes))) }
 {
-    let m = cells::lesser(n, bytes.len());
-    record_given(track, first, bytes, m);
-    record_zeros(track, first + m, n - m);
-}
-
-// The check of so many recorded bytes, recorded behind them.
-fn record_check(track: &mut [u16], first: usize, n: usize)
-    requires { Lies track.old first n }
-    ensures { track.new ≡ overlay track.old (first + n) (cells_of (sixteen (check (bytes_of (part track.old first n))))) }
-{
-    let end = first + n;
-    let sum = house_check::check_of(&track[first..end]);
-    track[end] = ZERO + sum / 256;
-    track[end + 1] = ZERO + sum % 256;
+    let n = area.len() - CHECK_CELLS;
+    let sum = house_check::check_of(&area[..n]);
+    area[n] = ZERO + sum / 256;
+    area[n + 1] = ZERO + sum % 256;
 }
 
 // An area of n bytes recorded from a cell on, with its check.
@@ -78,8 +59,9 @@ pub fn write_area(track: &mut [u16], first: usize, bytes: &[u8], n: usize)
     requires { Lies track.old first n }
     ensures { track.new ≡ area_written track.old first bytes.now n }
 {
-    record_bytes(track, first, bytes, n);
-    record_check(track, first, n);
+    let area = &mut track[first..first + n + CHECK_CELLS];
+    record_bytes(&mut area[..n], bytes);
+    record_check(area);
 }
 
 // A count area recorded at a cell, with its check: the flag, then the eight bytes that are sent.
@@ -87,18 +69,17 @@ pub fn write_count(track: &mut [u16], c: usize, flag: u8, bytes: &[u8])
     requires { Lies track.old c 9 }
     ensures { track.new ≡ count_written track.old c flag bytes.now }
 {
-    record_byte(track, c, flag);
-    record_bytes(track, c + 1, bytes, COUNT_SENT);
-    record_check(track, c, COUNT_BYTES);
+    let count = &mut track[c..c + COUNT_BYTES + CHECK_CELLS];
+    count[0] = cell_of(flag);
+    record_bytes(&mut count[1..COUNT_BYTES], bytes);
+    record_check(count);
 }
 
 // Gaps from a cell to the track's end.
+#[tactic(auto, using(crate::proofs::Laws::wiped_put))]
 pub fn wipe(track: &mut [u16], from: usize)
     ensures { track.new ≡ wiped track.old from }
 {
-    let mut i = from;
-    while i < track.len() {
-        track[i] = 0;
-        i += 1;
-    }
+    let start = from.min(track.len());
+    track[start..].fill(GAP);
 }

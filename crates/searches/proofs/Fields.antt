@@ -1,18 +1,17 @@
 -- The field of a search lies where the code compares it, once all that its job names was readable.
-use Prim.Native.Nat.{ℕ, ◌+◌, ◌*◌, ◌/◌, ◌%◌, ◌≤◌, min}
-use mathlib.Core.Path.{◌≡◌, refl, sym, ap, ap₂, ◌∙◌}
+use Prim.Native.Nat.{ℕ, ◌+◌, ◌*◌, ◌/◌, ◌%◌, ◌≤◌}
+use mathlib.Core.Path.{◌≡◌, refl, ap, ◌∙◌}
 use mathlib.Core.Bool.{Bool, true, false}
 use mathlib.Core.List.{List, [], ◌∷◌}
 use native.Mathlib.Omega.{arith}
 use native.Mathlib.Decide.{ℕ_discrete}
-use lib.ListN.{length, take, drop, length-take, length-drop}
-use lib.Seq.{drop-drop, take_all}
-use Rattle.cells.specs.Cells.{number, part, byte_of, bytes_of}
-use Rattle.cells.proofs.Laws.{length-bytes_of, take-bytes_of, length_part, take_min}
+use lib.ListN.{length, take, drop, length-drop}
+use lib.Seq.{drop-drop}
+use Rattle.cells.specs.Cells.{part, byte_of, bytes_of}
+use Rattle.cells.proofs.Laws.{length-bytes_of, take-bytes_of, length_part}
 use Rattle.areas.specs.declared.{Counts.Counts}
 use Rattle.areas.specs.Areas.{count_area, key_area, counts_of, counts_at}
-use Rattle.compare.specs.declared.{Compared.Compared}
-use Rattle.compare.specs.Compare.{compared, compared_bytes, There}
+use Rattle.compare.specs.Compare.{compared_bytes}
 use Rattle.pack.specs.declared.{Head.Head}
 use Rattle.command.specs.Command.{Seen, id_of, gets, seen_of, Sighted, areas_of, areas_read, field_of, comparison}
 use Rattle.command.proofs.Seen.{area-bytes, count-lies, record_counts, key_lies, record_key, home_seen, home_lies}
@@ -112,23 +111,7 @@ lying_long t f first n l = ap length l.there ∙ length-bytes_of (part t first n
 
 -- ---- compared with the bytes sent, as many as both have
 
-module _ (t : List ℕ) (first n : ℕ) (v : List ℕ) (e : first + n ≤ length t) (m : ℕ) (q : m ≡ min (length v) n) where
-  pub both_there : There t first v 0 m
-  both_there = record { on_track = omega arith; sent = omega arith }
-
-  track-bytes : take (length v) (bytes_of (part t first n)) ≡ bytes_of (part t first m)
-  unfolding part
-  track-bytes =
-      take-bytes_of (length v) (part t first n)
-      ∙ ap bytes_of (take_min (length v) n (drop first t) ∙ ap (λ (k : ℕ). take k (drop first t)) (sym q))
-
-  sent_bytes : take n v ≡ part v 0 m
-  unfolding part
-  sent_bytes =
-      sym (take_all (length v) (take n v) (omega (arith, length-take n v))) ∙ take_min (length v) n v ∙ ap (λ (k : ℕ). take k v) (sym q)
-
-  pub compared_there : (x : Compared) → x ≡ compared_bytes t first v 0 m → x ≡ comparison (bytes_of (part t first n)) v
-  unfolding comparison compared_bytes
-  compared_there x p =
-      let long : length (bytes_of (part t first n)) ≡ n = length-bytes_of (part t first n) ∙ length_part t first n e in
-      p ∙ ap₂ (λ (a b : List ℕ). compared (number a) (number b)) (sym track-bytes) (sym (ap (λ (k : ℕ). take k v) long ∙ sent_bytes))
+pub compared_there : (t v : List ℕ) (first n m : ℕ) → m ≡ n
+    → compared_bytes (take m (drop first t)) v ≡ comparison (bytes_of (part t first n)) v
+unfolding comparison compared_bytes part
+compared_there t v first n m e = rw e (simp (take-bytes_of, length-bytes_of))

@@ -1,4 +1,3 @@
 -- Laws of the searches.
-pub mod Laws
 pub mod Fields
 pub mod Report

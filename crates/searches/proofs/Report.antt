@@ -7,7 +7,7 @@ use native.Mathlib.Omega.{arith}
 use lib.ListN.{length}
 use lib.Dec.{leb}
 use Rattle.cells.specs.Cells.{pick, both, part, bytes_of}
-use Rattle.compare.specs.declared.{Compared.Compared}
+use Rattle.std.specs.declared.cmp.Ordering.{Ordering}
 use Rattle.table.specs.declared.{How.How}
 use Rattle.turn.specs.declared.{Ending.Ending, Transfer.Transfer, Report.Report}
 use Rattle.turn.specs.declared.Ending.TheVariants.{Normal, Satisfied}
@@ -39,7 +39,7 @@ module _ (h : How) (t : List ℕ) (j : Job) (s : Sighted (alone t) j) (n first :
     unfolding search_turn field_turn sight transfer_of
     told_is = ended (sight (alone t) j v) _ _ [] _
 
-    pub search_tells : (x : Compared) (w b : Bool) (e : Ending) (r : Report) → x ≡ comparison (bytes_of (part t first n)) v
+    pub search_tells : (x : Ordering) (w b : Bool) (e : Ending) (r : Report) → x ≡ comparison (bytes_of (part t first n)) v
         → w ≡ both (equal_only h) (both (leb n (length v)) (satisfies_field h x n)) → b ≡ satisfies_field h x n → e ≡ pick b Satisfied Normal
         → r ≡ report_at j j.task e (Transfer.Takes n) w → r ≡ report_of (search_turn h (sight (alone t) j v))
     unfolding satisfied wholly

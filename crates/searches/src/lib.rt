@@ -11,7 +11,7 @@ ghost use Rattle.searches.specs.Field.{field_first, field_length};
 
 use areas::Counts;
 use command::Job;
-use compare::Compared;
+use std::cmp::Ordering;
 use table::{How, Names};
 use turn::{Ending, Report, Transfer};
 
@@ -25,34 +25,37 @@ const HOME: u16 = 4;
 
 const ID: u16 = 5;
 
-fn satisfies(h: How, x: Compared) -> bool
+#[tactic(auto, unfolding(command::specs::Command::satisfies))]
+fn satisfies(h: How, x: Ordering) -> bool
     ensures { result ≡ satisfies h x }
 {
-    match x {
-        Compared::Low => false,
-        Compared::Equal => if let How::IfHigh = h { false } else { true },
-        Compared::High => if let How::IfEqual = h { false } else { true },
+    match h {
+        How::IfEqual => x.is_eq(),
+        How::IfHigh => x.is_gt(),
+        How::IfEqualOrHigh => x.is_ge(),
     }
 }
 
 // Whether a search over a field of n bytes is satisfied.
-fn found(h: How, x: Compared, n: u16) -> bool
+#[tactic(auto, unfolding(command::specs::Command::satisfies_field))]
+fn found(h: How, x: Ordering, n: u16) -> bool
     ensures { result ≡ satisfies_field h x n }
 {
     n != 0 && satisfies(h, x)
 }
 
+#[tactic(auto, unfolding(command::specs::Command::equal_only))]
 fn equal_only(h: How) -> bool
     ensures { result ≡ equal_only h }
 {
-    if let How::IfEqual = h { true } else { false }
+    matches!(h, How::IfEqual)
 }
 
 // Whether it was equal over the whole field, so many bytes being sent.
-fn wholly(h: How, x: Compared, n: u16, sent: usize) -> bool
+fn wholly(h: How, x: Ordering, n: u16, sent: usize) -> bool
     ensures { result ≡ both (equal_only h) (both (leb n sent) (satisfies_field h x n)) }
 {
-    equal_only(h) && (n as usize <= sent && found(h, x, n))
+    equal_only(h) && (usize::from(n) <= sent && found(h, x, n))
 }
 
 fn end_by(satisfied: bool) -> Ending
@@ -101,12 +104,11 @@ fn field_length(names: Names, n: Counts) -> u16
 }
 
 // A field of n bytes on the track, from a cell on, against the bytes sent: as many bytes as both have.
-fn compare_field(track: &[u16], first: usize, n: usize, sent: &[u8]) -> Compared
+fn compare_field(track: &[u16], first: usize, n: u16, sent: &[u8]) -> Ordering
     requires { first + n ≤ length track.now }
     ensures { result ≡ comparison (bytes_of (part track.now first n)) sent.now }
 {
-    let m = cells::lesser(sent.len(), n);
-    compare::compare(track, first, sent, 0, m)
+    compare::compare(&track[first..first + usize::from(n)], sent)
 }
 
 // What a search tells that has read its field.
@@ -117,8 +119,8 @@ pub fn search(h: How, j: Job, sent: &[u8], track: &[u16]) -> Report
     let names = j.names;
     let n = field_length(names, j.counts);
     let first = field_first(names, j.task.place);
-    let x = compare_field(track, first, n as usize, sent);
+    let x = compare_field(track, first, n, sent);
     let whole = wholly(h, x, n, sent.len());
     let end = end_by(found(h, x, n));
-    ending::ended(j, end, Transfer::Takes(n as u32), whole)
+    ending::ended(j, end, Transfer::Takes(u32::from(n)), whole)
 }

@@ -5,8 +5,8 @@ use Rattle.reads.specs.Inside.{bytes_given}
 use Rattle.reads.proofs.Sight.{home_on, record_on, gives_none, puts_given}
 use Rattle.reads.proofs.give.Goals as goal
 
-pub put-requires : goal.put-requires
-put-requires c = (home_on _ _ c.requires c.in-HomeAddress.is, omega arith)
+pub cells_at-requires : goal.cells_at-requires
+cells_at-requires c = home_on _ _ c.requires c.in-HomeAddress.is
 
 pub put_record-requires : goal.put_record-requires
 put_record-requires c = (record_on _ _ c.requires _ _ _ c.in-Count.is, omega arith)
@@ -16,7 +16,7 @@ returns-in-Nothing c v = gives_none _ _ c.requires _ v c.in-Nothing.is _ _
 
 pub returns-in-HomeAddress : goal.returns-in-HomeAddress
 unfolding bytes_given
-returns-in-HomeAddress c v = puts_given _ _ c.requires _ v _ c.in-HomeAddress.is _ _ _ _ _ refl c.put.ensures
+returns-in-HomeAddress c v = puts_given _ _ c.requires _ v _ c.in-HomeAddress.is _ _ _ _ _ refl (rw c.cells_at.ensures at c.put.ensures)
 
 pub returns-in-Count : goal.returns-in-Count
 unfolding bytes_given

@@ -1,15 +1,12 @@
 -- Of the cells those that are not left out and find room are put: `put_cells` puts a run of them.
-use mathlib.Core.Path.{refl}
-use native.Mathlib.Omega.{arith}
-use Rattle.reads.proofs.Laws.{rest-lies, run_puts}
+use Rattle.std.proofs.Common.{◌+◌, ◌-◌, arith, refl}
+use Rattle.reads.proofs.Laws.{run_puts}
 use Rattle.reads.proofs.put.Goals as goal
-
-pub put_cells-requires : goal.put_cells-requires
-put_cells-requires c = (
-  rest-lies _ _ _ c.args.into.now c.args.r c.requires.0 _ _ c.lesser-skip.ensures c.lesser-m.ensures,
-  omega (arith, c.lesser-m.ensures, c.requires.1),
-)
 
 pub returns : goal.returns
 returns c =
-    run_puts _ _ _ _ c.args.r c.requires.0 _ _ c.lesser-skip.ensures c.lesser-m.ensures _ _ c.put_cells.ensures refl refl
+    let skip = c.min-skip.result in
+    let m = c.min-m.result in
+    let at = c.args.r.at in
+    run_puts _ _ c.args.r _ _ c.min-skip.ensures c.min-m.ensures (skip + m - skip) (at + m - at) _ _ (omega arith) (omega arith)
+    c.put_cells.ensures refl refl

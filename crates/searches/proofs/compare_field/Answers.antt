@@ -1,9 +1,7 @@
--- It compares as many bytes as both have; so does the model.
-use Rattle.searches.proofs.Fields.{both_there, compared_there}
+-- The cells of the field are a part of the track.
+use Rattle.std.proofs.Common.{◌∙◌, ◌+◌, ◌-◌, arith}
+use Rattle.searches.proofs.Fields.{compared_there}
 use Rattle.searches.proofs.compare_field.Goals as goal
 
-pub compare-requires : goal.compare-requires
-compare-requires c = both_there _ _ _ _ c.requires _ c.lesser-m.ensures
-
 pub returns : goal.returns
-returns c = compared_there _ _ _ _ c.requires _ c.lesser-m.ensures _ c.compare.ensures
+returns c = c.compare.ensures ∙ compared_there _ _ _ c.args.n (c.args.first + c.from.result - c.args.first) (omega arith)
