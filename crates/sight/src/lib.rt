@@ -7,7 +7,7 @@ ghost use Rattle.areas.specs.Areas.{readable, row_of};
 ghost use Rattle.pack.specs.declared.Head.{Head};
 ghost use Rattle.table.specs.declared.{Names.Names};
 ghost use Rattle.turn.specs.Turn.{alone};
-ghost use Rattle.command.specs.Command.{named, no_counts, on_head, all_read, gets};
+ghost use Rattle.command.specs.Command.{named, on_head, all_read, gets};
 
 use areas::{Area, Counts};
 use rows::Row;
@@ -27,8 +27,7 @@ fn check(track: &[u16], a: Area) -> Result<(), Row>
     if areas::is_readable(track, a) {
         return Ok(());
     }
-    let part = a.part;
-    Err(areas::row_of(part))
+    Err(areas::row_of(a.part))
 }
 
 // The same, if the area is there.
@@ -47,20 +46,6 @@ fn read_named(track: &[u16], c: u16, key: bool, body: bool, n: Counts) -> Result
     Ok(n)
 }
 
-// The home address has no count.
-fn no_counts() -> Counts
-    ensures { result ≡ no_counts }
-{
-    Counts {
-        flag: 0,
-        cc: 0,
-        hh: 0,
-        r: 0,
-        kl: 0,
-        dl: 0,
-    }
-}
-
 // A record.
 fn read_record(track: &[u16], c: u16, key: bool, body: bool) -> Result<Counts, Row>
     ensures { (h : Head) → result ≡ gets (Names.Count key body) (alone track.now) h c }
@@ -69,15 +54,15 @@ fn read_record(track: &[u16], c: u16, key: bool, body: bool) -> Result<Counts, R
     read_named(track, c, key, body, n)
 }
 
-// All that a command names, checked.
+// All that a command names, checked. The home address has no count.
 pub fn get(track: &[u16], n: Names, c: u16) -> Result<Counts, Row>
     ensures { (h : Head) → result ≡ gets n (alone track.now) h c }
 {
     match n {
-        Names::Nothing => Ok(no_counts()),
+        Names::Nothing => Ok(Counts::default()),
         Names::HomeAddress => {
             check(track, areas::home_area())?;
-            Ok(no_counts())
+            Ok(Counts::default())
         }
         Names::Count(key, body) => read_record(track, c, key, body),
     }

@@ -8,4 +8,4 @@ compare_field-x-requires c = field_ends c.args.h _ _ c.requires _ _ c.field_leng
 pub returns : goal.returns
 returns c =
     search_tells _ _ _ c.requires _ _ c.field_length-n.ensures c.field_first-first.ensures _ _ _ _ _ _
-    c.compare_field-x.ensures c.wholly-whole.ensures c.found.ensures c.end_by-end.ensures (rw c.from.ensures at c.ended.ensures)
+    c.compare_field-x.ensures c.wholly-whole.ensures c.found-found.ensures c.end_by-end.ensures (rw c.from.ensures at c.ended.ensures)
