@@ -17,7 +17,7 @@ const HOME_BYTES: u32 = 5;
 pub const COUNT_BYTES: u32 = 9;
 
 const COUNT: u32 = COUNT_BYTES + CHECK;
-// Of a flag byte, bit 0, the odd/even bit, and bits 6 and 7, which are copied.
+// Of a flag byte, bit 0, the odd/even bit, and bits 6 and 7, which are copied: masks, since they are bits and no bytes of a number.
 const ODD: u8 = 0x80;
 
 const COPIED: u8 = 0x03;
@@ -50,7 +50,7 @@ pub struct Counts {
     pub dl: u16,
 }
 
-// Whether an area is readable.
+// Whether an area is readable. The track is lent beside it: an area says where it lies, on any track.
 pub fn is_readable(track: &[u16], a: Area) -> bool
     ensures { result ≡ readable track.now a }
 {
@@ -155,7 +155,7 @@ pub fn key_area(c: u16, n: Counts) -> Area
     }
 }
 
-// The data area of the record whose count area is at a cell.
+// The data area of the record whose count area is at a cell. It shares no field with the key area, so each is a literal of its own.
 #[tactic(auto, unfolding(crate::specs::Areas::data_area))]
 pub fn data_area(c: u16, n: Counts) -> Area
     ensures { result ≡ data_area c n }

@@ -19,7 +19,7 @@ use Rattle.ending.proofs.Laws.{ended}
 use Rattle.searches.specs.Field.{field_first, field_length}
 use Rattle.searches.proofs.Fields.{Lying, field_in, field_lies, lying_long}
 
-module _ (h : How) (t : List ℕ) (j : Job) (s : Sighted (alone t) j) (n first : ℕ)
+module _ (t : List ℕ) (j : Job) (s : Sighted (alone t) j) (n first : ℕ)
     (p : n ≡ field_length j.names j.counts) (q : first ≡ field_first j.names j.task.place) where
   here : Lying t (field_in t j) first n
   here =
@@ -33,7 +33,7 @@ module _ (h : How) (t : List ℕ) (j : Job) (s : Sighted (alone t) j) (n first :
   pub field_ends : first + n ≤ length t
   field_ends = here.ends
 
-  module _ (v : List ℕ) where
+  module _ (h : How) (v : List ℕ) where
     told_is : report_of (search_turn h (sight (alone t) j v))
         ≡ report_at j j.task (pick (satisfied h (field_in t j) v) Satisfied Normal) (Transfer.Takes (length (field_in t j))) (wholly h (field_in t j) v)
     unfolding search_turn field_turn sight transfer_of

@@ -1,11 +1,11 @@
 // The searches.
 #![tactic(auto)]
 
-ghost use Rattle.std.specs.Prelude.{◌≡◌, ◌+◌, ◌≤◌, length, leb};
-ghost use Rattle.cells.specs.Cells.{pick, both, part, bytes_of};
+ghost use Rattle.std.specs.Prelude.{◌≡◌, leb};
+ghost use Rattle.cells.specs.Cells.{pick, both};
 ghost use Rattle.turn.specs.declared.Ending.TheVariants.{Normal, Satisfied};
 ghost use Rattle.turn.specs.Turn.{alone, report_of};
-ghost use Rattle.command.specs.Command.{satisfies, satisfies_field, equal_only, Sighted, sight, comparison, search_turn};
+ghost use Rattle.command.specs.Command.{satisfies, satisfies_field, equal_only, Sighted, sight, search_turn};
 ghost use Rattle.searches.specs.Field.{field_first, field_length};
 
 use areas::Counts;
@@ -66,7 +66,7 @@ fn end_by(satisfied: bool) -> Ending
     Ending::Normal
 }
 
-// The first cell of the field: a key lies behind the count area, an ID behind the flag.
+// The first cell of the field: a key lies behind the count area, an ID behind the flag. It is a place and no code: where nothing is named, any would do.
 #[tactic(auto, unfolding(crate::specs::Field::field_first))]
 fn field_first(names: Names, place: u16) -> usize
     ensures { result ≡ field_first names place }
@@ -92,14 +92,6 @@ fn field_length(names: Names, n: Counts) -> u16
     }
 }
 
-// A field of n bytes on the track, from a cell on, against the bytes sent: as many bytes as both have.
-fn compare_field(track: &[u16], first: usize, n: u16, sent: &[u8]) -> Ordering
-    requires { first + n ≤ length track.now }
-    ensures { result ≡ comparison (bytes_of (part track.now first n)) sent.now }
-{
-    compare::compare(&track[first..first + usize::from(n)], sent)
-}
-
 // What a search tells that has read its field.
 pub fn search(h: How, j: Job, sent: &[u8], track: &[u16]) -> Report
     requires { Sighted (alone track.now) j }
@@ -107,7 +99,7 @@ pub fn search(h: How, j: Job, sent: &[u8], track: &[u16]) -> Report
 {
     let n = field_length(j.names, j.counts);
     let first = field_first(j.names, j.task.place);
-    let x = compare_field(track, first, n, sent);
+    let x = compare::compare(&track[first..first + usize::from(n)], sent);
     let found = found(h, x, n);
     let whole = wholly(h, n, sent.len(), found);
     let end = end_by(found);

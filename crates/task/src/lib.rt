@@ -19,6 +19,7 @@ use pack::Head;
 use rows::Row;
 use table::{Act, Aim, Bar, Licence, Rule, Serves};
 
+// The command before is held as its code, the byte that the channel sent, and the model tests it by these: an enum would be a second table of codes.
 const SEARCH_ID_EQUAL: u8 = 0x31;
 
 const SEARCH_KEY_EQUAL: u8 = 0x29;
@@ -79,7 +80,7 @@ fn follows_look(before: u8) -> bool
     table::is_look(table::rule_of(before).act)
 }
 
-// Whether the command before is one that must come before.
+// Whether the command before is one that must come before. Each licence asks for another test, so a match says it shortest.
 #[tactic(auto, unfolding(command::specs::Command::licensed))]
 fn licensed(l: Licence, o: Orders) -> bool
     ensures { result ≡ licensed l o }
@@ -102,12 +103,14 @@ fn is_tallying(a: Act) -> bool
     matches!(a, Act::Search(_))
 }
 
-// A record that the head came to past so many index points.
+// A record that the head came to past so many index points. The rule and the orders stand apart here and below, as in the model's `on_record r o ..`:
+// each contract would take a struct of both apart.
 #[tactic(auto, unfolding(command::specs::Command::on_record))]
 fn on_record(r: Rule, o: Orders, h: Head, spot: Spot, n: u8) -> Result<Task, Row>
     requires { count_first spot ≤ track_cells }
     ensures { result ≡ on_record r o h spot n }
 {
+    // Proved to fit: `try_from` would add an end that is never come to.
     let place = hunt::count_first(spot) as u16;
     let selection = r.selects.then_some(spot);
     let tally = if is_tallying(r.act) {
@@ -172,7 +175,7 @@ fn serves_of(code: u8) -> Serves
     table::rule_of(code).serves
 }
 
-// Whether the command before serves one with this aim.
+// Whether the command before serves one with this aim. Two aims ask, each its own test, and the others nothing.
 #[tactic(auto, unfolding(crate::specs::Inside::is_served))]
 fn is_served(a: Aim, before: u8) -> bool
     ensures { result ≡ is_served a before }
@@ -224,7 +227,7 @@ fn unbarred(b: Bar, mask: u8) -> Result<(), Row>
     }
 }
 
-// Where a command works, or the row that ends it.
+// Where a command works, or the row that ends it. That the record selected is one of the track can be no invariant of the orders, which are held without it.
 #[tactic(auto, unfolding(command::specs::Command::plan_of, command::specs::Command::unless_barred))]
 pub fn plan(rule: Rule, track: &Track, s: Position, o: Orders) -> Result<Task, Row>
     requires { SelectedOn (marks track.now) o.selection }
