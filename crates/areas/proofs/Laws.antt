@@ -2,7 +2,7 @@
 -- those of its cells; how many cells a record takes.
 use Prim.Native.Nat.{ℕ, ◌+◌, ◌-◌, ◌*◌, ◌/◌, ◌%◌, ◌<◌, ◌≤◌, ◌^◌, min}
 use mathlib.Core.Path.{◌≡◌, refl, sym, ap, ap₂, ◌∙◌}
-use mathlib.Core.Bool.{Bool, true, false}
+use mathlib.Core.Bool.{Bool, false}
 use mathlib.Core.List.{List}
 use native.Mathlib.Omega.{arith}
 use lib.ListN.{length, get_or, take, drop, length-take, length-drop}
@@ -14,7 +14,7 @@ use Rattle.cells.specs.Cells.{pick, both, part, be16, byte_of, bytes_of, all_byt
 use Rattle.cells.proofs.Laws.{get_or-bytes_of}
 use Rattle.house_check.specs.Check.{agrees, good_cells}
 use Rattle.areas.specs.declared.{Area.Area, Counts.Counts}
-use Rattle.areas.specs.Areas.{area, home_area, home_flag, count_cells, area_cells, readable, area_bytes, count_area, counts_of, counts_at, key_cells, flag_after}
+use Rattle.areas.specs.Areas.{home_area, home_flag, area_cells, readable, area_bytes, count_area, counts_of, counts_at, key_cells, flag_after}
 use mathlib.Core.Logic.{◌⊎◌, inl, inr}
 use denote.Bor.{Bor}
 use Rattle.std.specs.Prelude.{Some, None, Option}

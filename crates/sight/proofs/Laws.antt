@@ -12,7 +12,7 @@ use Rattle.areas.specs.Areas.{home_area, count_area, key_area, data_area, readab
 use Rattle.pack.specs.declared.{Head.Head}
 use Rattle.command.specs.Command.{area_if, named, named_by, no_counts, on_head, areas_of, all_read, counts_in, gets}
 use Rattle.table.specs.declared.{Names.Names}
-use Rattle.turn.specs.Turn.{Tracks, alone}
+use Rattle.turn.specs.Turn.{alone}
 use Rattle.std.specs.Prelude.{Some, None, Ok, Err, Result, Option}
 use Rattle.std.specs.Option.{ok_or}
 use Rattle.std.specs.Result.{IsErrAnd}
@@ -111,6 +111,10 @@ module _ (t : List ℕ) (h : Head) (c : ℕ) (key body : Bool) where
     count_reads n g e w = w ∙ ap by_count (e ∙ ap (λ o. ok_or o UnreadableCount) q) ∙ count_first
 
 -- ---- by what is named
+
+-- of the six zeros of the default
+pub counts_none : (k : Counts) → (k.flag ≡ 0) × ((k.cc ≡ 0) × ((k.hh ≡ 0) × ((k.r ≡ 0) × ((k.kl ≡ 0) × (k.dl ≡ 0))))) → k ≡ no_counts
+counts_none k (f, (p, (q, (r, (l, d))))) = λ i. record { flag = f i; cc = p i; hh = q i; r = r i; kl = l i; dl = d i }
 
 module _ (t : List ℕ) (h : Head) (c : ℕ) (n : Names) where
   pub nothing_named : (k : Counts) → n ≡ Names.Nothing → k ≡ no_counts → Ok k ≡ gets n (alone t) h c

@@ -20,7 +20,7 @@ fn is_there(named: bool, length: u16) -> bool
     named && 0 < length
 }
 
-// An area is readable, or its row ends the command.
+// An area is readable, or its row ends the command. The track is lent beside it: an area says where it lies, on any track.
 fn check(track: &[u16], a: Area) -> Result<(), Row>
     ensures { result ≡ pick (readable track.now a) (Ok tt) (Err (row_of a.part)) }
 {
@@ -54,7 +54,7 @@ fn read_record(track: &[u16], c: u16, key: bool, body: bool) -> Result<Counts, R
     read_named(track, c, key, body, n)
 }
 
-// All that a command names, checked. The home address has no count.
+// All that a command names, checked. The home address has no count. Each arm names other areas, so a match says it shortest.
 pub fn get(track: &[u16], n: Names, c: u16) -> Result<Counts, Row>
     ensures { (h : Head) → result ≡ gets n (alone track.now) h c }
 {
