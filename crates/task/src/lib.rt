@@ -228,7 +228,7 @@ fn unbarred(b: Bar, mask: u8) -> Result<(), Row>
 }
 
 // Where a command works, or the row that ends it. That the record selected is one of the track can be no invariant of the orders, which are held without it.
-#[tactic(auto, unfolding(command::specs::Command::plan_of, command::specs::Command::unless_barred))]
+#[tactic(auto, unfolding(command::specs::Command::plan_of))]
 pub fn plan(rule: Rule, track: &Track, s: Position, o: Orders) -> Result<Task, Row>
     requires { SelectedOn (marks track.now) o.selection }
     ensures { result ≡ plan_of rule (marks_of (alone track.now)) s o }
