@@ -24,6 +24,7 @@ const HOME: u16 = 4;
 
 const ID: u16 = 5;
 
+// Each search asks its own question of the order.
 #[tactic(auto, unfolding(command::specs::Command::satisfies))]
 fn satisfies(h: How, x: Ordering) -> bool
     ensures { result ≡ satisfies h x }

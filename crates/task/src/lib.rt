@@ -156,7 +156,7 @@ fn to_next(r: Rule, track: &Track, s: Position, o: Orders) -> Result<Task, Row>
     on_next(r, o, s.head, hunt::next_record(track, s.place))
 }
 
-// The record selected, where the command before serves this one, or else the next.
+// The record selected, where the command before serves this one, or else the next: with a guard each is called in one place (DECISIONS 97).
 #[tactic(auto, unfolding(command::specs::Command::to_served, command::specs::Command::on_selected))]
 fn to_served(r: Rule, track: &Track, s: Position, o: Orders, serves: bool) -> Result<Task, Row>
     requires { SelectedOn (marks track.now) o.selection }
