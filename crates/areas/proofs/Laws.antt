@@ -1,8 +1,8 @@
 -- Laws of areas: an area off the track is not readable; one on it is readable where its cells are good; a count area's values are
 -- those of its cells; how many cells a record takes.
-use Prim.Native.Nat.{ℕ, ◌+◌, ◌-◌, ◌*◌, ◌<◌, ◌≤◌, min}
-use mathlib.Core.Path.{◌≡◌, sym, ap, ap₂, ◌∙◌}
-use mathlib.Core.Bool.{Bool, true, false}
+use Prim.Native.Nat.{ℕ, ◌+◌, ◌-◌, ◌*◌, ◌/◌, ◌%◌, ◌<◌, ◌≤◌, ◌^◌, min}
+use mathlib.Core.Path.{◌≡◌, refl, sym, ap, ap₂, ◌∙◌}
+use mathlib.Core.Bool.{Bool, false}
 use mathlib.Core.List.{List}
 use native.Mathlib.Omega.{arith}
 use lib.ListN.{length, get_or, take, drop, length-take, length-drop}
@@ -14,9 +14,15 @@ use Rattle.cells.specs.Cells.{pick, both, part, be16, byte_of, bytes_of, all_byt
 use Rattle.cells.proofs.Laws.{get_or-bytes_of}
 use Rattle.house_check.specs.Check.{agrees, good_cells}
 use Rattle.areas.specs.declared.{Area.Area, Counts.Counts}
-use Rattle.areas.specs.declared.Part.TheVariants.{Data}
-use Rattle.areas.specs.Areas.{area, home_area, home_flag, count_cells, read_count, data_bytes, data_area, area_cells, readable, area_bytes, count_area, counts_of, counts_at, key_cells}
-use Rattle.std.specs.Prelude.{Some, None}
+use Rattle.areas.specs.Areas.{home_area, home_flag, area_cells, readable, area_bytes, count_area, counts_of, counts_at, key_cells, flag_after}
+use mathlib.Core.Logic.{◌⊎◌, inl, inr}
+use denote.Bor.{Bor}
+use Rattle.std.specs.Prelude.{Some, None, Option}
+use lib.Bits.{bit_and, bit_or}
+use Rattle.std.proofs.lemmas.Grind.{and_numeral, and_high_numeral}
+use Rattle.std.proofs.lemmas.Nat.{or_shifted}
+use Rattle.std.specs.Option.{MatchOption}
+use Rattle.std.specs.List.{slice_range}
 
 -- ---- readable
 
@@ -37,6 +43,17 @@ unfolding readable area_cells part
 on_track_lem t a n e h =
     let l : length (take n (drop a.first t)) - 2 ≡ a.bytes = simp (length-take, length-drop) (omega arith) in
     ap₂ good_cells l (ap (λ (m : ℕ). take m (drop a.first t)) e)
+
+-- by the cells that `get` lends, if it lends any
+pub readable_lent : (t : List ℕ) (a : Area) (g : Option (Bor (List ℕ))) (r : Bool)
+    → MatchOption g ((a.first + a.bytes + 2 < a.first) ⊎ (length t < a.first + a.bytes + 2))
+    (λ x. (a.first ≤ a.first + a.bytes + 2) × (a.first + a.bytes + 2 ≤ length t) × (x.now ≡ slice_range t a.first (a.first + a.bytes + 2))
+    × (length x.now + a.first ≡ a.first + a.bytes + 2))
+    → MatchOption g (r ≡ false) (λ x. r ≡ good_cells (length x.now - 2) x.now) → r ≡ readable t a
+readable_lent t a None r (inl h) p = absurd (omega arith)
+readable_lent t a None r (inr h) p = p ∙ sym (off_track t a h)
+readable_lent t a (Some x) r (l, h, e, n) p =
+    p ∙ ap (λ (v : List ℕ). good_cells (length v - 2) v) e ∙ on_track_lem t a (a.first + a.bytes + 2 - a.first) (omega arith) h
 
 -- ---- a count area's values
 
@@ -82,19 +99,6 @@ module _ (t : List ℕ) (c : ℕ) where
     dl = two 7 dl (lit< tt) x i;
   }
 
--- the count area read, by the test of its being readable
-module _ (t : List ℕ) (c : ℕ) (a : Area) (b : Bool) (e : a ≡ count_area c) (r : b ≡ readable t a) where
-  is_it_lem : b ≡ readable t (count_area c)
-  is_it_lem = r ∙ ap (readable t) e
-
-  pub count_fails : b ≡ false → None ≡ read_count t c
-  unfolding read_count
-  count_fails g = ap (λ (x : Bool). pick x (Some (counts_at t c)) None) (sym g ∙ is_it_lem)
-
-  pub count-reads : b ≡ true → (n : Counts) → n ≡ counts_at t c → Some n ≡ read_count t c
-  unfolding read_count
-  count-reads g n f = ap Some f ∙ ap (λ (x : Bool). pick x (Some (counts_at t c)) None) (sym g ∙ is_it_lem)
-
 -- ---- how many cells
 
 pub no_key : (n : Counts) → n.kl ≡ 0 → key_cells n ≡ 0
@@ -105,6 +109,10 @@ pub some_key : (n : Counts) → (n.kl ≡ 0 → ⊥) → key_cells n ≡ n.kl + 
 unfolding key_cells
 some_key n e = ap (λ (b : Bool). pick b 0 (n.kl + 2)) (ne_eqb n.kl 0 e)
 
-pub data_lies : (c : ℕ) (n : Counts) (k d : ℕ) → k ≡ key_cells n → d ≡ data_bytes n → area Data (c + count_cells + k) d ≡ data_area c n
-unfolding data_area
-data_lies c n k d p q = ap₂ (λ (x y : ℕ). area Data (c + count_cells + x) y) p q
+-- ---- a flag byte: the odd/even bit above the rest and the copied ones below share none
+
+pub flag_bits : (b : ℕ) → b < 256 → bit_or (bit_and (255 - b) 128) (bit_and b 3) ≡ flag_after b
+unfolding flag_after
+flag_bits b h =
+    let high : bit_and (255 - b) 128 ≡ (1 - b / 128) * 2 ^ 7 = omega (arith, and_high_numeral (255 - b) 127 refl (omega arith)) in
+    rw (high, and_numeral b 2 refl) (or_shifted (1 - b / 128) 7 (b % 4) (omega arith))

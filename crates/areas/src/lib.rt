@@ -3,7 +3,7 @@
 
 ghost use Rattle.std.specs.Prelude.{◌≡◌, ◌+◌, ◌*◌, ◌<◌, get_or};
 ghost use Rattle.cells.specs.Cells.{byte_of};
-ghost use Rattle.areas.specs.Areas.{area, readable, row_of, home_area, count_area, counts_at, read_count, key_cells, data_bytes, key_area, data_area, record_cells, end_by, needed, flag_of_r0, flag_after};
+ghost use Rattle.areas.specs.Areas.{readable, row_of, home_area, count_area, counts_at, read_count, key_cells, data_bytes, key_area, data_area, record_cells, end_by, needed, flag_of_r0, flag_after};
 
 use rows::Row;
 
@@ -21,10 +21,10 @@ const HOME_BYTES: u32 = 5;
 pub const COUNT_BYTES: u32 = 9;
 
 const COUNT: u32 = COUNT_BYTES + CHECK;
-// Bit 0 of a flag byte, the odd/even bit; bits 6 and 7, which are copied, are below the other.
-const ODD: u8 = 128;
+// Of a flag byte, bit 0, the odd/even bit, and bits 6 and 7, which are copied: masks, since they are bits and no bytes of a number.
+const ODD: u8 = 0x80;
 
-const COPIED: u8 = 4;
+const COPIED: u8 = 0x03;
 
 // What an area holds.
 #[derive(Clone, Copy)]
@@ -44,7 +44,7 @@ pub struct Area {
 }
 
 // What a count area says.
-#[derive(Clone, Copy)]
+#[derive(Clone, Copy, Default)]
 pub struct Counts {
     pub flag: u8,
     pub cc: u16,
@@ -54,16 +54,17 @@ pub struct Counts {
     pub dl: u16,
 }
 
-// Whether an area is readable.
+// Whether an area is readable. The track is lent beside it: an area says where it lies, on any track.
 pub fn is_readable(track: &[u16], a: Area) -> bool
     ensures { result ≡ readable track.now a }
 {
     let first = a.first as usize;
     let end = first + a.bytes as usize + CHECK_CELLS;
-    end <= track.len() && house_check::good(&track[first..end])
+    track.get(first..end).is_some_and(house_check::good)
 }
 
 // The Unit Check row of an area that is not readable.
+#[tactic(auto, unfolding(crate::specs::Areas::row_of))]
 pub fn row_of(part: Part) -> Row
     ensures { result ≡ row_of part }
 {
@@ -73,24 +74,26 @@ pub fn row_of(part: Part) -> Row
     }
 }
 
-fn area_at(part: Part, first: u32, bytes: u32) -> Area
-    ensures { result ≡ area part first bytes }
-{
-    Area { part, first, bytes }
-}
-
 // The home address.
 pub fn home_area() -> Area
     ensures { result ≡ home_area }
 {
-    area_at(Part::Home, 0, HOME_BYTES)
+    Area {
+        part: Part::Home,
+        first: 0,
+        bytes: HOME_BYTES,
+    }
 }
 
 // The count area at a cell.
 pub fn count_area(c: u16) -> Area
     ensures { result ≡ count_area c }
 {
-    area_at(Part::Count, c as u32, COUNT_BYTES)
+    Area {
+        part: Part::Count,
+        first: u32::from(c),
+        bytes: COUNT_BYTES,
+    }
 }
 
 // Two bytes of a track as one number.
@@ -104,10 +107,11 @@ fn pair_at(track: &[u16], at: usize) -> u16
 }
 
 // The values of the count area at a cell, as they stand there.
+#[tactic(auto, using(crate::proofs::Laws::counts_are))]
 fn counts_at(track: &[u16], c: u16) -> Counts
     ensures { result ≡ counts_at track.now c }
 {
-    let i = c as usize;
+    let i = usize::from(c);
     Counts {
         flag: cells::low_at(track, i),
         cc: pair_at(track, i + 1),
@@ -119,42 +123,56 @@ fn counts_at(track: &[u16], c: u16) -> Counts
 }
 
 // The count area at a cell, read.
+#[tactic(auto, unfolding(crate::specs::Areas::read_count))]
 pub fn read_count(track: &[u16], c: u16) -> Option<Counts>
     ensures { result ≡ read_count track.now c }
 {
-    if is_readable(track, count_area(c)) {
-        return Some(counts_at(track, c));
-    }
-    None
+    is_readable(track, count_area(c)).then(|| counts_at(track, c))
 }
 
+#[tactic(auto, unfolding(crate::specs::Areas::key_cells))]
 fn key_cells(n: Counts) -> u32
     ensures { (result ≡ key_cells n) × (result < 258) }
 {
-    if n.kl == 0 { 0 } else { n.kl as u32 + CHECK }
+    if n.kl == 0 {
+        0
+    } else {
+        u32::from(n.kl) + CHECK
+    }
 }
 
 fn data_bytes(n: Counts) -> u32
     ensures { (result ≡ data_bytes n) × (result < 65536) }
 {
-    if n.dl == 0 { 1 } else { n.dl as u32 }
+    u32::from(n.dl.max(1))
 }
 
 // The key area of the record whose count area is at a cell. It is absent if KL is 0.
+#[tactic(auto, unfolding(crate::specs::Areas::key_area))]
 pub fn key_area(c: u16, n: Counts) -> Area
     ensures { result ≡ key_area c n }
 {
-    area_at(Part::Key, c as u32 + COUNT, n.kl as u32)
+    Area {
+        part: Part::Key,
+        first: u32::from(c) + COUNT,
+        bytes: u32::from(n.kl),
+    }
 }
 
-// The data area of the record whose count area is at a cell.
+// The data area of the record whose count area is at a cell. It shares no field with the key area, so each is a literal of its own.
+#[tactic(auto, unfolding(crate::specs::Areas::data_area))]
 pub fn data_area(c: u16, n: Counts) -> Area
     ensures { result ≡ data_area c n }
 {
-    area_at(Part::Data, c as u32 + COUNT + key_cells(n), data_bytes(n))
+    Area {
+        part: Part::Data,
+        first: u32::from(c) + COUNT + key_cells(n),
+        bytes: data_bytes(n),
+    }
 }
 
 // How many cells a record takes, its marker not counted.
+#[tactic(auto, unfolding(crate::specs::Areas::record_cells))]
 pub fn record_cells(n: Counts) -> u32
     ensures { (result ≡ record_cells n) × (result < 65806) }
 {
@@ -162,13 +180,15 @@ pub fn record_cells(n: Counts) -> u32
 }
 
 // The cell after the record whose count area is at a cell. It can lie far past the track.
+#[tactic(auto, unfolding(crate::specs::Areas::end_by))]
 pub fn end_by(c: u16, n: Counts) -> u32
     ensures { result ≡ end_by c n }
 {
-    c as u32 + record_cells(n)
+    u32::from(c) + record_cells(n)
 }
 
 // How many cells a new record needs, its marker too.
+#[tactic(auto, unfolding(crate::specs::Areas::needed))]
 pub fn cells_needed(n: Counts) -> u32
     ensures { result ≡ needed n }
 {
@@ -176,15 +196,17 @@ pub fn cells_needed(n: Counts) -> u32
 }
 
 // The flag byte of a new R0, by the home address's.
+#[tactic(auto, unfolding(crate::specs::Areas::flag_of_r0))]
 pub fn flag_of_r0(home: u8) -> u8
     ensures { result ≡ flag_of_r0 home }
 {
-    home % COPIED
+    home & COPIED
 }
 
 // The flag byte of a new record, by that of the record before.
+#[tactic(auto, using(crate::proofs::Laws::flag_bits))]
 pub fn flag_after(before: u8) -> u8
     ensures { result ≡ flag_after before }
 {
-    (1 - before / ODD) * ODD + before % COPIED
+    !before & ODD | before & COPIED
 }

@@ -1,12 +1,11 @@
 // The searches.
 #![tactic(auto)]
 
-ghost use Rattle.std.specs.Prelude.{◌≡◌, ◌+◌, ◌≤◌, length, leb};
-ghost use Rattle.cells.specs.Cells.{pick, both, part, bytes_of};
-ghost use Rattle.areas.specs.Areas.{count_cells};
+ghost use Rattle.std.specs.Prelude.{◌≡◌, leb};
+ghost use Rattle.cells.specs.Cells.{pick, both};
 ghost use Rattle.turn.specs.declared.Ending.TheVariants.{Normal, Satisfied};
 ghost use Rattle.turn.specs.Turn.{alone, report_of};
-ghost use Rattle.command.specs.Command.{flag_bytes, id_bytes, satisfies, satisfies_field, equal_only, Sighted, sight, comparison, search_turn};
+ghost use Rattle.command.specs.Command.{satisfies, satisfies_field, equal_only, Sighted, sight, search_turn};
 ghost use Rattle.searches.specs.Field.{field_first, field_length};
 
 use areas::Counts;
@@ -16,15 +15,16 @@ use table::{How, Names};
 use turn::{Ending, Report, Transfer};
 
 // Cells of a flag, and of a count area with its check.
-const FLAG: u16 = 1;
+const FLAG: usize = 1;
 
-const COUNT: u16 = 11;
+const COUNT: usize = 11;
 
 // Bytes of the home address behind its flag, and of an ID.
 const HOME: u16 = 4;
 
 const ID: u16 = 5;
 
+// Each search asks its own question of the order.
 #[tactic(auto, unfolding(command::specs::Command::satisfies))]
 fn satisfies(h: How, x: Ordering) -> bool
     ensures { result ≡ satisfies h x }
@@ -51,11 +51,11 @@ fn equal_only(h: How) -> bool
     matches!(h, How::IfEqual)
 }
 
-// Whether it was equal over the whole field, so many bytes being sent.
-fn wholly(h: How, x: Ordering, n: u16, sent: usize) -> bool
-    ensures { result ≡ both (equal_only h) (both (leb n sent) (satisfies_field h x n)) }
+// Whether what was found was equal over the whole field, so many bytes being sent.
+fn wholly(h: How, n: u16, sent: usize, found: bool) -> bool
+    ensures { result ≡ both (equal_only h) (both (leb n sent) found) }
 {
-    equal_only(h) && (usize::from(n) <= sent && found(h, x, n))
+    equal_only(h) && (usize::from(n) <= sent && found)
 }
 
 fn end_by(satisfied: bool) -> Ending
@@ -67,33 +67,20 @@ fn end_by(satisfied: bool) -> Ending
     Ending::Normal
 }
 
-// How far the field lies behind the first cell of its record: a key behind the count area, an ID behind the flag.
-fn behind(key: bool) -> u16
-    ensures { result ≡ pick key count_cells flag_bytes }
-{
-    if key { COUNT } else { FLAG }
-}
-
-// The first cell of the field.
+// The first cell of the field: a key lies behind the count area, an ID behind the flag. It is a place and no code: where nothing is named, any would do.
 #[tactic(auto, unfolding(crate::specs::Field::field_first))]
 fn field_first(names: Names, place: u16) -> usize
     ensures { result ≡ field_first names place }
 {
     match names {
         Names::Nothing => 0,
-        Names::HomeAddress => FLAG as usize,
-        Names::Count(key, _) => place as usize + behind(key) as usize,
+        Names::HomeAddress => FLAG,
+        Names::Count(true, _) => usize::from(place) + COUNT,
+        Names::Count(false, _) => usize::from(place) + FLAG,
     }
 }
 
-// How many bytes the key or the ID has.
-fn record_length(key: bool, n: Counts) -> u16
-    ensures { result ≡ pick key n.kl id_bytes }
-{
-    if key { n.kl as u16 } else { ID }
-}
-
-// How many bytes the field has.
+// How many bytes the field has. It is no Option: a field of no bytes is compared as any other is, and satisfies nothing.
 #[tactic(auto, unfolding(crate::specs::Field::field_length))]
 fn field_length(names: Names, n: Counts) -> u16
     ensures { result ≡ field_length names n }
@@ -101,16 +88,9 @@ fn field_length(names: Names, n: Counts) -> u16
     match names {
         Names::Nothing => 0,
         Names::HomeAddress => HOME,
-        Names::Count(key, _) => record_length(key, n),
+        Names::Count(true, _) => u16::from(n.kl),
+        Names::Count(false, _) => ID,
     }
-}
-
-// A field of n bytes on the track, from a cell on, against the bytes sent: as many bytes as both have.
-fn compare_field(track: &[u16], first: usize, n: u16, sent: &[u8]) -> Ordering
-    requires { first + n ≤ length track.now }
-    ensures { result ≡ comparison (bytes_of (part track.now first n)) sent.now }
-{
-    compare::compare(&track[first..first + usize::from(n)], sent)
 }
 
 // What a search tells that has read its field.
@@ -118,11 +98,11 @@ pub fn search(h: How, j: Job, sent: &[u8], track: &[u16]) -> Report
     requires { Sighted (alone track.now) j }
     ensures { result ≡ report_of (search_turn h (sight (alone track.now) j sent.now)) }
 {
-    let names = j.names;
-    let n = field_length(names, j.counts);
-    let first = field_first(names, j.task.place);
-    let x = compare_field(track, first, n, sent);
-    let whole = wholly(h, x, n, sent.len());
-    let end = end_by(found(h, x, n));
+    let n = field_length(j.names, j.counts);
+    let first = field_first(j.names, j.task.place);
+    let x = compare::compare(&track[first..first + usize::from(n)], sent);
+    let found = found(h, x, n);
+    let whole = wholly(h, n, sent.len(), found);
+    let end = end_by(found);
     ending::ended(j, end, Transfer::Takes(u32::from(n)), whole)
 }

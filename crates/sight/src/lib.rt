@@ -1,13 +1,13 @@
 // What a command reads: of a record its count area, then every area it names, all checked before any byte moves.
 #![tactic(auto)]
 
-ghost use Rattle.std.specs.Prelude.{◌≡◌, ◌∷◌, [], ltb, Ok};
-ghost use Rattle.cells.specs.Cells.{both};
-ghost use Rattle.areas.specs.Areas.{home_area};
+ghost use Rattle.std.specs.Prelude.{◌≡◌, ◌∷◌, [], ltb, Ok, Err};
+ghost use Rattle.cells.specs.Cells.{pick, both};
+ghost use Rattle.areas.specs.Areas.{readable, row_of};
 ghost use Rattle.pack.specs.declared.Head.{Head};
 ghost use Rattle.table.specs.declared.{Names.Names};
 ghost use Rattle.turn.specs.Turn.{alone};
-ghost use Rattle.command.specs.Command.{area_if, named, no_counts, on_head, all_read, gets};
+ghost use Rattle.command.specs.Command.{named, on_head, all_read, gets};
 
 use areas::{Area, Counts};
 use rows::Row;
@@ -20,75 +20,50 @@ fn is_there(named: bool, length: u16) -> bool
     named && 0 < length
 }
 
-// An area read before what else is got.
-fn read_area(track: &[u16], a: Area, x: Result<Counts, Row>) -> Result<Counts, Row>
-    ensures { (h : Head) → result ≡ all_read (alone track.now) (on_head h (a ∷ [])) x }
+// An area is readable, or its row ends the command. The track is lent beside it: an area says where it lies, on any track.
+fn check(track: &[u16], a: Area) -> Result<(), Row>
+    ensures { result ≡ pick (readable track.now a) (Ok tt) (Err (row_of a.part)) }
 {
     if areas::is_readable(track, a) {
-        return x;
+        return Ok(());
     }
-    let part = a.part;
-    Err(areas::row_of(part))
+    Err(areas::row_of(a.part))
 }
 
 // The same, if the area is there.
-fn read_if(track: &[u16], there: bool, a: Area, x: Result<Counts, Row>) -> Result<Counts, Row>
-    ensures { (h : Head) → result ≡ all_read (alone track.now) (on_head h (area_if there a)) x }
+fn check_if(there: bool, track: &[u16], a: Area) -> Result<(), Row>
+    ensures { result ≡ pick there (pick (readable track.now a) (Ok tt) (Err (row_of a.part))) (Ok tt) }
 {
-    if there { read_area(track, a, x) } else { x }
+    if there { check(track, a) } else { Ok(()) }
 }
 
 // The key and the data of a record, if they are named and there. The key's row stands before the data's.
 fn read_named(track: &[u16], c: u16, key: bool, body: bool, n: Counts) -> Result<Counts, Row>
     ensures { (h : Head) → result ≡ all_read (alone track.now) (on_head h (named c key body n)) (Ok n) }
 {
-    let data = is_there(body, n.dl);
-    let got = read_if(track, data, areas::data_area(c, n), Ok(n));
-    let keyed = is_there(key, n.kl as u16);
-    read_if(track, keyed, areas::key_area(c, n), got)
-}
-
-// The home address has no count.
-fn no_counts() -> Counts
-    ensures { result ≡ no_counts }
-{
-    Counts {
-        flag: 0,
-        cc: 0,
-        hh: 0,
-        r: 0,
-        kl: 0,
-        dl: 0,
-    }
-}
-
-fn read_home(track: &[u16]) -> Result<Counts, Row>
-    ensures { (h : Head) → result ≡ all_read (alone track.now) (on_head h (home_area ∷ [])) (Ok no_counts) }
-{
-    let none = no_counts();
-    read_area(track, areas::home_area(), Ok(none))
+    check_if(is_there(key, u16::from(n.kl)), track, areas::key_area(c, n))?;
+    check_if(is_there(body, n.dl), track, areas::data_area(c, n))?;
+    Ok(n)
 }
 
 // A record.
 fn read_record(track: &[u16], c: u16, key: bool, body: bool) -> Result<Counts, Row>
     ensures { (h : Head) → result ≡ gets (Names.Count key body) (alone track.now) h c }
 {
-    match areas::read_count(track, c) {
-        Some(n) => read_named(track, c, key, body, n),
-        None => Err(Row::UnreadableCount),
-    }
+    let n = areas::read_count(track, c).ok_or(Row::UnreadableCount)?;
+    read_named(track, c, key, body, n)
 }
 
-// All that a command names, checked.
+// All that a command names, checked. The home address has no count. Each arm names other areas, so a match says it shortest.
 pub fn get(track: &[u16], n: Names, c: u16) -> Result<Counts, Row>
     ensures { (h : Head) → result ≡ gets n (alone track.now) h c }
 {
     match n {
-        Names::Nothing => {
-            let none = no_counts();
-            Ok(none)
+        Names::Nothing => Ok(Counts::default()),
+        Names::HomeAddress => {
+            check(track, areas::home_area())?;
+            Ok(Counts::default())
         }
-        Names::HomeAddress => read_home(track),
         Names::Count(key, body) => read_record(track, c, key, body),
     }
 }

@@ -10,21 +10,15 @@ use Rattle.hunt.specs.declared.{Spot.Spot}
 use Rattle.hunt.specs.Hunt.{WholeTrack, count_first, spaced_to}
 use Rattle.hunt.proofs.Inside.{NextOn, next_in, spot_in}
 use Rattle.held.specs.declared.{Position.Position, Orders.Orders}
-use Rattle.pack.specs.declared.{Head.Head}
-use Rattle.command.specs.Command.{SelectedOn, Marks, marks_of, licensed, on_record, on_selected, to_next, to_served, aimed, unless_barred, plan_of}
-use Rattle.task.specs.Inside.{selected_place}
-use Rattle.table.specs.declared.{Aim.Aim, Rule.Rule}
+use Rattle.command.specs.Command.{SelectedOn, Marks, marks_of, licensed, to_next, to_served, aimed, unless_barred, plan_of}
+use Rattle.task.specs.Inside.{selected_place, unbarred}
+use Rattle.table.specs.declared.{Aim.Aim, Bar.Bar, Rule.Rule}
+use Rattle.table.specs.Table.{bars_seek, bars_write}
 use Rattle.turn.specs.Turn.{Tracks, alone}
-use Rattle.std.specs.Prelude.{Some, None, Err, Option, Result}
+use Rattle.std.specs.Prelude.{Some, None, Ok, Err, Option, Result}
+use Rattle.std.specs.Result.{IsErrAnd}
+use Rattle.std.proofs.lemmas.Result.{err_from_is_err_and}
 use Rattle.command.specs.declared.{Task.Task}
-
-pub come_to : (x : Option (Spot × ℕ)) (spot : Spot) (n : ℕ) → x ≡ Some (spot, n) → spaced_to x ≤ track_cells → count_first spot ≤ track_cells
-unfolding spaced_to
-come_to x spot n e h = subst (λ (y : Option (Spot × ℕ)). spaced_to y ≤ track_cells) e h
-
-pub selected : (x : Option Spot) (spot : Spot) → x ≡ Some spot → selected_place x ≤ track_cells → count_first spot ≤ track_cells
-unfolding selected_place
-selected x spot e h = subst (λ (y : Option Spot). selected_place y ≤ track_cells) e h
 
 module _ (t : List ℕ) (w : WholeTrack t) where
   pub next_place : (x y : Option (Spot × ℕ)) → x ≡ y → NextOn (marks t) y → spaced_to x ≤ track_cells
@@ -36,29 +30,46 @@ module _ (t : List ℕ) (w : WholeTrack t) where
   selected_place_lem (Some spot) h = spot_in t w spot h
 
   pub selected_on : (x : Option Spot) (spot : Spot) → x ≡ Some spot → SelectedOn (marks t) x → count_first spot ≤ track_cells
-  selected_on x spot e h = selected x spot e (selected_place_lem x h)
+  unfolding selected_place
+  selected_on x spot e h = subst (λ (y : Option Spot). selected_place y ≤ track_cells) e (selected_place_lem x h)
 
-module _ (r : Rule) (o : Orders) (h : Head) (x : Option Spot) (other p : Result Task Row) where
-  pub on_one : (spot : Spot) → x ≡ Some spot → p ≡ on_record r o h spot 0 → p ≡ on_selected r o h x other
-  unfolding on_selected
-  on_one spot e f = f ∙ ap (λ (y : Option Spot). on_selected r o h y other) (sym e)
+-- ---- what is aimed at, unless the mask bars it
 
-  pub on_none : x ≡ None → p ≡ other → p ≡ on_selected r o h x other
-  unfolding on_selected
-  on_none e f = f ∙ ap (λ (y : Option Spot). on_selected r o h y other) (sym e)
+unfoldable unless : Result (Unit {0}) Row → Result Task Row → Result Task Row
+unless (Ok u) x = x
+unless (Err row) x = Err row
 
-module _ (r : Rule) (m : Marks) (s : Position) (o : Orders) (serves : Bool) (p : Result Task Row) where
-  pub served_one : (spot : Spot) → serves ≡ true → o.selection ≡ Some spot → p ≡ on_record r o s.head spot 0 → p ≡ to_served r m s o serves
-  unfolding to_served
-  served_one spot e q f = on_one r o s.head o.selection (to_next r m s o) p spot q f ∙ ap (to_served r m s o) (sym e)
+bars_first : (b : Bar) (m : ℕ) (x : Result Task Row) → unless (unbarred b m) x ≡ unless_barred b m x
+unfolding unless unbarred unless_barred
+bars_first Bar.Nothing m x = refl
+bars_first (Bar.Seeks k) m x = go (bars_seek m k)
+  where
+    go : (t : Bool) → unless (pick t (Err Row.SeekBarred) (Ok tt)) x ≡ pick t (Err Row.SeekBarred) x
+    go true = refl
+    go false = refl
+bars_first (Bar.Writes k) m x = go (bars_write m k)
+  where
+    go : (t : Bool) → unless (pick t (Err Row.WriteBarred) (Ok tt)) x ≡ pick t (Err Row.WriteBarred) x
+    go true = refl
+    go false = refl
 
-  pub served_none : serves ≡ true → o.selection ≡ None → p ≡ to_next r m s o → p ≡ to_served r m s o serves
-  unfolding to_served
-  served_none e q f = on_none r o s.head o.selection (to_next r m s o) p q f ∙ ap (to_served r m s o) (sym e)
+module _ (r : Rule) (m : Marks) (s : Position) (o : Orders) (l : licensed r.licence o ≡ true) (b : Result (Unit {0}) Row) (q : b ≡ unbarred r.bar o.mask)
+    (g : Result Task Row) where
+  planned : unless b (aimed r m s o r.aim) ≡ plan_of r m s o
+  unfolding plan_of
+  planned =
+      ap (λ (x : Result (Unit {0}) Row). unless x (aimed r m s o r.aim)) q ∙ bars_first r.bar o.mask (aimed r m s o r.aim)
+      ∙ ap (λ (x : Bool). pick x (unless_barred r.bar o.mask (aimed r m s o r.aim)) (Err Row.WrongBefore)) (sym l)
 
-  pub unserved : serves ≡ false → p ≡ to_next r m s o → p ≡ to_served r m s o serves
-  unfolding to_served
-  unserved e f = f ∙ ap (to_served r m s o) (sym e)
+  pub plan_barred : (row : Row) → b ≡ Err row → IsErrAnd g (λ z. z ≡ row) → g ≡ plan_of r m s o
+  unfolding unless
+  plan_barred row e w =
+      let f = err_from_is_err_and g w in
+      f.1 ∙ ap Err f.2 ∙ ap (λ (x : Result (Unit {0}) Row). unless x (aimed r m s o r.aim)) (sym e) ∙ planned
+
+  pub plan_aimed : (u : Unit {0}) → b ≡ Ok u → g ≡ aimed r m s o r.aim → g ≡ plan_of r m s o
+  unfolding unless
+  plan_aimed u e w = w ∙ ap (λ (x : Result (Unit {0}) Row). unless x (aimed r m s o r.aim)) (sym e) ∙ planned
 
 -- ---- of the cylinder only the track under the head is seen
 

@@ -4,13 +4,14 @@
 ghost use Rattle.std.specs.Prelude.{◌≡◌, ◌≤◌, Some, None, Ok, Err};
 ghost use Rattle.cells.specs.Cells.{track_cells, marks, pick, either};
 ghost use Rattle.rows.specs.declared.{Row.Row};
-ghost use Rattle.hunt.specs.Hunt.{WholeTrack, count_first, spaced_to};
-ghost use Rattle.command.specs.Command.{SelectedOn, equal_id, equal_id_or_key, home_done, record_written, task, marks_of, licensed, tallies, on_record, on_next, on_selected, to_next, to_served, aimed, unless_barred, plan_of};
-ghost use Rattle.task.specs.Inside.{selected_place, is_served};
+ghost use Rattle.hunt.specs.Hunt.{count_first, spaced_to};
+ghost use Rattle.command.specs.Command.{SelectedOn, equal_id, equal_id_or_key, home_done, record_written, task, marks_of, licensed, tallies, on_record, on_next, on_selected, to_next, to_served, aimed, plan_of};
+ghost use Rattle.task.specs.Inside.{selected_place, is_served, unbarred};
 ghost use Rattle.table.specs.Table.{rule_of, looks};
 ghost use Rattle.table.specs.declared.{Aim.Aim};
 ghost use Rattle.turn.specs.Turn.{alone};
 
+use cells::Track;
 use command::Task;
 use held::{Orders, Position};
 use hunt::Spot;
@@ -18,6 +19,7 @@ use pack::Head;
 use rows::Row;
 use table::{Act, Aim, Bar, Licence, Rule, Serves};
 
+// The command before is held as its code, the byte that the channel sent, and the model tests it by these: an enum would be a second table of codes.
 const SEARCH_ID_EQUAL: u8 = 0x31;
 
 const SEARCH_KEY_EQUAL: u8 = 0x29;
@@ -34,26 +36,30 @@ const WRITE_COUNT_KEY_DATA: u8 = 0x1D;
 const HOME_PLACE: u16 = 1;
 
 // Search ID and Key may pass one index point in a row.
-const MOST_TALLY: u16 = 1;
+const MOST_TALLY: u8 = 1;
 
+#[tactic(auto, unfolding(command::specs::Command::equal_id))]
 fn equal_id(before: u8, whole: bool) -> bool
     ensures { result ≡ equal_id before whole }
 {
     whole && before == SEARCH_ID_EQUAL
 }
 
+#[tactic(auto, unfolding(command::specs::Command::equal_id_or_key))]
 fn equal_id_or_key(before: u8, whole: bool) -> bool
     ensures { result ≡ equal_id_or_key before whole }
 {
     whole && (before == SEARCH_ID_EQUAL || before == SEARCH_KEY_EQUAL)
 }
 
+#[tactic(auto, unfolding(command::specs::Command::home_done))]
 fn home_done(before: u8, whole: bool) -> bool
     ensures { result ≡ home_done before whole }
 {
     before == WRITE_HOME || (whole && before == SEARCH_HOME)
 }
 
+#[tactic(auto, unfolding(command::specs::Command::record_written))]
 fn record_written(before: u8) -> bool
     ensures { result ≡ record_written before }
 {
@@ -71,12 +77,11 @@ fn record_licensed(before: u8, whole: bool) -> bool
 fn follows_look(before: u8) -> bool
     ensures { result ≡ looks (rule_of before).act }
 {
-    let r = table::rule_of(before);
-    let act = r.act;
-    table::is_look(act)
+    table::is_look(table::rule_of(before).act)
 }
 
-// Whether the command before is one that must come before.
+// Whether the command before is one that must come before. Each licence asks for another test, so a match says it shortest.
+#[tactic(auto, unfolding(command::specs::Command::licensed))]
 fn licensed(l: Licence, o: Orders) -> bool
     ensures { result ≡ licensed l o }
 {
@@ -91,111 +96,87 @@ fn licensed(l: Licence, o: Orders) -> bool
 }
 
 // Whether a command counts the index points that it passes.
+#[tactic(auto, unfolding(command::specs::Command::tallies))]
 fn is_tallying(a: Act) -> bool
     ensures { result ≡ tallies a }
 {
-    if let Act::Search(_) = a { true } else { false }
+    matches!(a, Act::Search(_))
 }
 
-fn selection_if(selects: bool, spot: Spot) -> Option<Spot>
-    ensures { result ≡ pick selects (Some spot) None }
-{
-    if selects {
-        return Some(spot);
-    }
-    None
-}
-
-// A record that the head came to past so many index points.
+// A record that the head came to past so many index points. The rule and the orders stand apart here and below, as in the model's `on_record r o ..`:
+// each contract would take a struct of both apart.
+#[tactic(auto, unfolding(command::specs::Command::on_record))]
 fn on_record(r: Rule, o: Orders, h: Head, spot: Spot, n: u8) -> Result<Task, Row>
     requires { count_first spot ≤ track_cells }
     ensures { result ≡ on_record r o h spot n }
 {
+    // Proved to fit: `try_from` would add an end that is never come to.
     let place = hunt::count_first(spot) as u16;
-    let selection = selection_if(r.selects, spot);
-    let act = r.act;
-    if !is_tallying(act) {
-        return Ok(Task {
-            head: h,
-            place,
-            selection,
-            tally: 0,
-        });
-    }
-    let passed = o.tally as u16 + n as u16;
-    if MOST_TALLY < passed {
+    let selection = r.selects.then_some(spot);
+    let tally = if is_tallying(r.act) {
+        o.tally.saturating_add(n)
+    } else {
+        0
+    };
+    if MOST_TALLY < tally {
         return Err(Row::SecondIndex);
     }
     Ok(Task {
         head: h,
         place,
         selection,
-        tally: passed as u8,
+        tally,
     })
 }
 
+#[tactic(auto, unfolding(command::specs::Command::on_next, hunt::specs::Hunt::spaced_to))]
 fn on_next(r: Rule, o: Orders, h: Head, next: Option<(Spot, u8)>) -> Result<Task, Row>
     requires { spaced_to next ≤ track_cells }
     ensures { result ≡ on_next r o h next }
 {
-    match next {
-        Some((spot, n)) => on_record(r, o, h, spot, n),
-        None => Err(Row::NoMarker),
-    }
+    let (spot, n) = next.ok_or(Row::NoMarker)?;
+    on_record(r, o, h, spot, n)
 }
 
 // The record selected, which there must be.
+#[tactic(auto, unfolding(command::specs::Command::on_selected, crate::specs::Inside::selected_place))]
 fn on_selected(r: Rule, o: Orders, h: Head) -> Result<Task, Row>
     requires { selected_place o.selection ≤ track_cells }
     ensures { result ≡ on_selected r o h o.selection (Err Row.WrongBefore) }
 {
-    let selection = o.selection;
-    match selection {
-        Some(spot) => on_record(r, o, h, spot, 0),
-        None => Err(Row::WrongBefore),
-    }
+    let spot = o.selection.ok_or(Row::WrongBefore)?;
+    on_record(r, o, h, spot, 0)
 }
 
 // The next record.
-fn to_next(r: Rule, track: &[u16], s: Position, o: Orders) -> Result<Task, Row>
-    requires { WholeTrack track.now }
+#[tactic(auto, unfolding(command::specs::Command::to_next, command::specs::Command::marks_of))]
+fn to_next(r: Rule, track: &Track, s: Position, o: Orders) -> Result<Task, Row>
     ensures { result ≡ to_next r (marks_of (alone track.now)) s o }
 {
     on_next(r, o, s.head, hunt::next_record(track, s.place))
 }
 
-// The record selected, where the command before serves this one, or else the next.
-fn to_served(r: Rule, track: &[u16], s: Position, o: Orders, serves: bool) -> Result<Task, Row>
-    requires { WholeTrack track.now × SelectedOn (marks track.now) o.selection }
+// The record selected, where the command before serves this one, or else the next: with a guard each is called in one place (DECISIONS 97).
+#[tactic(auto, unfolding(command::specs::Command::to_served, command::specs::Command::on_selected))]
+fn to_served(r: Rule, track: &Track, s: Position, o: Orders, serves: bool) -> Result<Task, Row>
+    requires { SelectedOn (marks track.now) o.selection }
     ensures { result ≡ to_served r (marks_of (alone track.now)) s o serves }
 {
-    if !serves {
-        return to_next(r, track, s, o);
+    match o.selection {
+        Some(spot) if serves => on_record(r, o, s.head, spot, 0),
+        _ => to_next(r, track, s, o),
     }
-    let selection = o.selection;
-    match selection {
-        Some(spot) => on_record(r, o, s.head, spot, 0),
-        None => to_next(r, track, s, o),
-    }
-}
-
-// By Search ID's rule.
-fn to_next_id(r: Rule, track: &[u16], s: Position, o: Orders) -> Result<Task, Row>
-    requires { WholeTrack track.now }
-    ensures { result ≡ aimed r (marks_of (alone track.now)) s o Aim.NextId }
-{
-    on_next(r, o, s.head, hunt::next_id(track, s.place))
 }
 
 // Whom a command serves.
 fn serves_of(code: u8) -> Serves
     ensures { result ≡ (rule_of code).serves }
 {
-    let r = table::rule_of(code);
-    r.serves
+    table::rule_of(code).serves
 }
 
-// Whether the command before serves one with this aim.
+// Whether the command before serves one with this aim. Two aims ask, each its own test, and the others nothing.
+#[tactic(auto, unfolding(crate::specs::Inside::is_served))]
 fn is_served(a: Aim, before: u8) -> bool
     ensures { result ≡ is_served a before }
 {
@@ -219,49 +200,42 @@ fn task_at(h: Head, place: u16) -> Result<Task, Row>
 }
 
 // The last arm is for Next, NextForData and NextForKey: with more than one call of `to_served` plans went through memory (DECISIONS 97).
-fn aimed(r: Rule, track: &[u16], s: Position, o: Orders, a: Aim) -> Result<Task, Row>
-    requires { WholeTrack track.now × SelectedOn (marks track.now) o.selection }
+#[tactic(auto, unfolding(command::specs::Command::aimed, command::specs::Command::marks_of, command::specs::Command::to_served, hunt::specs::Hunt::count_first))]
+fn aimed(r: Rule, track: &Track, s: Position, o: Orders, a: Aim) -> Result<Task, Row>
+    requires { SelectedOn (marks track.now) o.selection }
     ensures { result ≡ aimed r (marks_of (alone track.now)) s o a }
 {
     match a {
         Aim::Stays => task_at(s.head, s.place),
         Aim::HomeAddress => task_at(s.head, HOME_PLACE),
         Aim::R0 => on_record(r, o, s.head, Spot::R0, 0),
-        Aim::NextId => to_next_id(r, track, s, o),
+        Aim::NextId => on_next(r, o, s.head, hunt::next_id(track, s.place)),
         Aim::Selected => on_selected(r, o, s.head),
         _ => to_served(r, track, s, o, is_served(a, o.before)),
     }
 }
 
-// A plan, unless a row ends it.
-fn unless(barred: bool, row: Row, x: Result<Task, Row>) -> Result<Task, Row>
-    ensures { result ≡ pick barred (Err row) x }
-{
-    if barred { Err(row) } else { x }
-}
-
-// The plan, unless the mask bars it.
-fn unless_barred(b: Bar, mask: u8, x: Result<Task, Row>) -> Result<Task, Row>
-    ensures { result ≡ unless_barred b mask x }
+// The row of a mask that bars the command.
+#[tactic(auto, unfolding(crate::specs::Inside::unbarred))]
+fn unbarred(b: Bar, mask: u8) -> Result<(), Row>
+    ensures { result ≡ unbarred b mask }
 {
     match b {
-        Bar::Nothing => x,
-        Bar::Seeks(k) => unless(table::bars_seek(mask, k), Row::SeekBarred, x),
-        Bar::Writes(k) => unless(table::bars_write(mask, k), Row::WriteBarred, x),
+        Bar::Seeks(k) if table::bars_seek(mask, k) => Err(Row::SeekBarred),
+        Bar::Writes(k) if table::bars_write(mask, k) => Err(Row::WriteBarred),
+        _ => Ok(()),
     }
 }
 
-// Where a command works, or the row that ends it.
-pub fn plan(rule: Rule, track: &[u16], s: Position, o: Orders) -> Result<Task, Row>
-    requires { WholeTrack track.now × SelectedOn (marks track.now) o.selection }
+// Where a command works, or the row that ends it. That the record selected is one of the track can be no invariant of the orders, which are held without it.
+#[tactic(auto, unfolding(command::specs::Command::plan_of))]
+pub fn plan(rule: Rule, track: &Track, s: Position, o: Orders) -> Result<Task, Row>
+    requires { SelectedOn (marks track.now) o.selection }
     ensures { result ≡ plan_of rule (marks_of (alone track.now)) s o }
 {
-    let licence = rule.licence;
-    if !licensed(licence, o) {
+    if !licensed(rule.licence, o) {
         return Err(Row::WrongBefore);
     }
-    let aim = rule.aim;
-    let x = aimed(rule, track, s, o, aim);
-    let bar = rule.bar;
-    unless_barred(bar, o.mask, x)
+    unbarred(rule.bar, o.mask)?;
+    aimed(rule, track, s, o, rule.aim)
 }

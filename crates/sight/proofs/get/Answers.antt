@@ -1,12 +1,14 @@
 -- By what is named.
-use Rattle.sight.proofs.Laws.{gets_none, gets_address, gets-count}
+use Rattle.sight.proofs.Laws.{counts_none, nothing_named, home_fails, home_read}
 use Rattle.sight.proofs.get.Goals as goal
 
 pub returns-in-Nothing : goal.returns-in-Nothing
-returns-in-Nothing c h = gets_none _ _ _ _ _ c.in-Nothing.is c.no_counts-none.ensures
+returns-in-Nothing c h = nothing_named _ _ _ _ _ c.in-Nothing.is (counts_none c.default.result c.default.ensures)
 
-pub returns-in-HomeAddress : goal.returns-in-HomeAddress
-returns-in-HomeAddress c h = gets_address _ _ _ _ _ c.in-HomeAddress.is (c.read_home.ensures h)
+pub returns-in_err-check-in-HomeAddress : goal.returns-in_err-check-in-HomeAddress
+returns-in_err-check-in-HomeAddress c h =
+    home_fails _ _ _ _ _ _ c.in-HomeAddress.is c.home_area.ensures c.check.ensures _ _ c.in_err-check-in-HomeAddress.was c.from_residual.ensures.1
 
-pub returns-in-Count : goal.returns-in-Count
-returns-in-Count c h = gets-count _ _ _ _ _ _ _ c.in-Count.is (c.read_record.ensures h)
+pub returns-in_ok-check-in-HomeAddress : goal.returns-in_ok-check-in-HomeAddress
+returns-in_ok-check-in-HomeAddress c h =
+    home_read _ _ _ _ _ _ c.in-HomeAddress.is c.home_area.ensures c.check.ensures _ _ c.in_ok-check-in-HomeAddress.was (counts_none c.default-in-HomeAddress.result c.default-in-HomeAddress.ensures)

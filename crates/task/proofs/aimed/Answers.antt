@@ -1,12 +1,12 @@
--- A line an aim, as in the model; the last arm's three aims are at the next record, unless the command before serves them.
+-- The last arm's three aims are at the next record, unless the command before serves them.
 use mathlib.Core.Path.{◌≡◌, refl, ◌∙◌}
 use native.Mathlib.Omega.{arith}
-use Rattle.hunt.specs.Hunt.{count_first}
+use Rattle.hunt.proofs.Inside.{id_on}
 use Rattle.held.specs.declared.{Position.Position, Orders.Orders}
 use Rattle.table.specs.declared.{Aim.Aim, Rule.Rule}
 use Rattle.command.specs.Command.{Marks, to_served, aimed}
 use Rattle.task.specs.Inside.{is_served}
-use Rattle.task.proofs.Laws.{selected_place_lem}
+use Rattle.task.proofs.Laws.{next_place, selected_place_lem}
 use Rattle.task.proofs.aimed.Goals as goal
 
 next-aimed : (r : Rule) (m : Marks) (s : Position) (o : Orders) (a : Aim)
@@ -22,32 +22,11 @@ next-aimed r m s o Aim.R0 v w x y z = absurd (x refl)
 next-aimed r m s o Aim.NextId v w x y z = absurd (y refl)
 next-aimed r m s o Aim.Selected v w x y z = absurd (z refl)
 
-pub on_record-requires : goal.on_record-requires
-unfolding count_first
-on_record-requires c = omega arith
+pub on_next-requires : goal.on_next-requires
+on_next-requires c = next_place _ (record { long = omega arith }) _ _ c.next_id.ensures (id_on _ _)
 
 pub on_selected-requires : goal.on_selected-requires
-on_selected-requires c = selected_place_lem _ c.requires.0 _ c.requires.1
-
-pub returns-in-Stays : goal.returns-in-Stays
-unfolding aimed
-returns-in-Stays c = rw c.in-Stays.is c.task_at.ensures
-
-pub returns-in-HomeAddress : goal.returns-in-HomeAddress
-unfolding aimed
-returns-in-HomeAddress c = rw c.in-HomeAddress.is c.task_at-in-HomeAddress.ensures
-
-pub returns-in-R0 : goal.returns-in-R0
-unfolding aimed
-returns-in-R0 c = rw c.in-R0.is c.on_record.ensures
-
-pub returns-in-NextId : goal.returns-in-NextId
-unfolding aimed
-returns-in-NextId c = rw c.in-NextId.is c.to_next_id.ensures
-
-pub returns-in-Selected : goal.returns-in-Selected
-unfolding aimed
-returns-in-Selected c = rw c.in-Selected.is c.on_selected.ensures
+on_selected-requires c = selected_place_lem _ (record { long = omega arith }) _ c.requires
 
 pub returns-in_default : goal.returns-in_default
 returns-in_default c = rw (← c.is_served.ensures) c.to_served.ensures ∙ next-aimed _ _ _ _ _ c.in_default.not-Stays c.in_default.not-HomeAddress c.in_default.not-R0 c.in_default.not-NextId c.in_default.not-Selected

