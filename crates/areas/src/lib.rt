@@ -96,16 +96,6 @@ pub fn count_area(c: u16) -> Area
     }
 }
 
-// Two bytes of a track as one number.
-fn pair_at(track: &[u16], at: usize) -> u16
-    requires { at < 70000 }
-    ensures { result ≡ byte_of (get_or track.now at 0) * 256 + byte_of (get_or track.now (at + 1) 0) }
-{
-    let high = cells::low_at(track, at);
-    let low = cells::low_at(track, at + 1);
-    cells::pair(high, low)
-}
-
 // The values of the count area at a cell, as they stand there.
 #[tactic(auto, using(crate::proofs::Laws::counts_are))]
 fn counts_at(track: &[u16], c: u16) -> Counts
@@ -113,12 +103,12 @@ fn counts_at(track: &[u16], c: u16) -> Counts
 {
     let i = usize::from(c);
     Counts {
-        flag: cells::low_at(track, i),
-        cc: pair_at(track, i + 1),
-        hh: pair_at(track, i + 3),
-        r: cells::low_at(track, i + 5),
-        kl: cells::low_at(track, i + 6),
-        dl: pair_at(track, i + 7),
+        flag: cells::byte_at(track, i),
+        cc: cells::pair_at(track, i + 1),
+        hh: cells::pair_at(track, i + 3),
+        r: cells::byte_at(track, i + 5),
+        kl: cells::byte_at(track, i + 6),
+        dl: cells::pair_at(track, i + 7),
     }
 }
 

@@ -75,24 +75,3 @@ pub fn pair_at<T: Byte>(s: &[T], at: usize) -> u16
 {
     u16::from_be_bytes([byte_at(s, at), byte_at(s, at + 1)])
 }
-
-// The low byte of the cell at an index of a track, 0 past its end.
-pub fn low_at(t: &[u16], at: usize) -> u8
-    ensures { result ≡ byte_of (get_or t.now at 0) }
-{
-    byte_at(t, at)
-}
-
-// Two bytes as one number, high byte first.
-pub fn pair(high: u8, low: u8) -> u16
-    ensures { result ≡ high * 256 + low }
-{
-    u16::from_be_bytes([high, low])
-}
-
-// The lesser of two indexes or lengths.
-pub fn lesser(a: usize, b: usize) -> usize
-    ensures { result ≡ min a b }
-{
-    if a <= b { a } else { b }
-}

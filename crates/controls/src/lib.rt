@@ -29,9 +29,9 @@ fn addressed(g: Shape, k: Seeking, c: Cylinder, sent: &[u8]) -> Result<(Cylinder
     let &[b0, b1, c0, c1, h0, h1, ..] = sent else {
         return Err(Row::BadSeek);
     };
-    let bb = cells::pair(b0, b1);
-    let cylinder = Cylinder(cells::pair(c0, c1));
-    let head = Head(cells::pair(h0, h1));
+    let bb = u16::from_be_bytes([b0, b1]);
+    let cylinder = Cylinder(u16::from_be_bytes([c0, c1]));
+    let head = Head(u16::from_be_bytes([h0, h1]));
     match k {
         Seeking::Seek | Seeking::SeekCylinder => pack::seek_to(g, bb, cylinder, head),
         Seeking::SeekHead => pack::seek_head(g, c, head),

@@ -53,7 +53,7 @@ fn recorded_check(text: &[u8], track: &mut [u16]) -> u16
 {
     let n = text.len();
     recording::write_area(track, 0, text, n);
-    u16::from_be_bytes([cells::low_at(track, n), cells::low_at(track, n + 1)])
+    cells::pair_at(track, n)
 }
 
 // Three records, the head at place 0, and a Search ID that none of them satisfies, with a TIC back to it.

@@ -17,11 +17,11 @@ pub fn new_counts(flag: u8, bytes: &[u8]) -> Counts
 {
     Counts {
         flag,
-        cc: cells::pair(cells::byte_at(bytes, 0), cells::byte_at(bytes, 1)),
-        hh: cells::pair(cells::byte_at(bytes, 2), cells::byte_at(bytes, 3)),
+        cc: cells::pair_at(bytes, 0),
+        hh: cells::pair_at(bytes, 2),
         r: cells::byte_at(bytes, 4),
         kl: cells::byte_at(bytes, 5),
-        dl: cells::pair(cells::byte_at(bytes, 6), cells::byte_at(bytes, 7)),
+        dl: cells::pair_at(bytes, 6),
     }
 }
 

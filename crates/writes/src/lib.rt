@@ -125,7 +125,7 @@ pub fn write(w: Write, j: Job, sent: &[u8], track: &[u16]) -> Report
             false,
         ),
         Write::R0 => {
-            let home = cells::low_at(track, 0);
+            let home = cells::byte_at(track, 0);
             write_r0(areas::flag_of_r0(home), j, sent)
         }
         Write::CountKeyData => write_after(
@@ -204,7 +204,7 @@ pub fn lay(w: Write, j: Job, sent: &[u8], track: &mut Track)
     match w {
         Write::HomeAddress => lay_home(sent, track),
         Write::R0 => {
-            let home = cells::low_at(track, 0);
+            let home = cells::byte_at(track, 0);
             lay_r0(areas::flag_of_r0(home), sent, track)
         }
         Write::CountKeyData => lay_after(

@@ -1,7 +1,6 @@
 -- Only a write lays; the others leave the track as it is.
 use mathlib.Core.Path.{◌≡◌, refl}
 use mathlib.Core.Bool.{false}
-use native.Mathlib.Omega.{arith}
 use Rattle.table.specs.declared.{Act.Act, Write.Write}
 use Rattle.table.specs.Table.{is_write}
 use Rattle.command.specs.Command.{act_turn}
@@ -17,8 +16,7 @@ others (Act.Read b) n = refl
 others (Act.Write w) n = absurd (n w refl)
 
 pub lay-requires : goal.lay-requires
-lay-requires c =
-    (record { long = omega arith }, writes_by _ _ c.requires.0.act c.requires.0.names c.in-Write.is, accepts_by _ _ _ _ c.in-Write.is c.requires.1)
+lay-requires c = (writes_by _ _ c.requires.0.act c.requires.0.names c.in-Write.is, accepts_by _ _ _ _ c.in-Write.is c.requires.1)
 
 pub returns-in-Write : goal.returns-in-Write
 unfolding act_turn
