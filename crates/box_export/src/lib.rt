@@ -5,13 +5,13 @@
 ghost use Rattle.std.specs.Prelude.{◌≡◌, length, eqb};
 ghost use Rattle.cells.specs.Cells.{pick};
 ghost use Rattle.held.specs.Held.{fresh, held_bytes, encoded, bit};
-ghost use Rattle.host.specs.Host.{answer_no, wrong_held};
 ghost use Rattle.look.specs.Look.{marker_call, looked, area_call};
 ghost use Rattle.box_export.specs.Calls.{call, shape, start_call, go_call};
 
 use held::Held;
-use host::Heard;
 use pack::Shape;
+
+mod numbers;
 
 // The fresh box: 1 if it was written, 0 with nothing written if the length is wrong.
 pub fn poplar_fresh(bytes: &mut [u8]) -> u8
@@ -24,24 +24,7 @@ pub fn poplar_fresh(bytes: &mut [u8]) -> u8
     0
 }
 
-// What is heard: what is held then, in the lent bytes, and the answer's number.
-fn tell(bytes: &mut [u8], heard: Heard) -> u8
-    ensures { (result ≡ answer_no heard.answer)
-        × (bytes.new ≡ pick (eqb (length bytes.old) held_bytes) (encoded heard.held) bytes.old) }
-{
-    held::put(bytes, heard.held);
-    host::number_of(heard.answer)
-}
-
-// Bytes that encode no held state.
-fn refuse(g: Shape, storage: &[u8], cells: &[u16]) -> u8
-    ensures { result ≡ answer_no (wrong_held g (length storage.now) (length cells.now)) }
-{
-    host::number_of(host::wrong_held(g, storage.len(), cells.len()))
-}
-
-// A start and a go differ in the call alone: a closure for it would be lent storage and cells again, and say again what comes back.
-// Starts a chain.
+// Starts a chain. A start and a go differ in the call alone: a closure for it would be lent storage and cells again, and say again what comes back.
 pub fn poplar_start(
     bytes: &mut [u8],
     storage: &mut [u8],
@@ -54,8 +37,8 @@ pub fn poplar_start(
 {
     let g = Shape { cylinders, heads };
     match held::keep(bytes) {
-        Some(h) => tell(bytes, host::start(g, h, storage, cells)),
-        None => refuse(g, storage, cells),
+        Some(h) => numbers::tell(bytes, host::start(g, h, storage, cells)),
+        None => numbers::refuse(g, storage, cells),
     }
 }
 
@@ -73,8 +56,8 @@ pub fn poplar_go(
 {
     let g = Shape { cylinders, heads };
     match held::keep(bytes) {
-        Some(h) => tell(bytes, host::go(g, h, storage, cells, allowance)),
-        None => refuse(g, storage, cells),
+        Some(h) => numbers::tell(bytes, host::go(g, h, storage, cells, allowance)),
+        None => numbers::refuse(g, storage, cells),
     }
 }
 
