@@ -113,7 +113,8 @@ fn search_line<W: Write>(out: &mut W, nth: u8, held: Held, storage: &[u8; 160]) 
         "11. The {nth}th Search ID in a row: {end}, sense {:02X}{:02X}, status word",
         sense.byte0, sense.byte1,
     )?;
-    for pair in storage[64..72].chunks_exact(2) {
+    // The status word's pairs, from 64 on.
+    for pair in storage.chunks_exact(2).skip(32).take(4) {
         write!(out, " {:02X}{:02X}", pair[0], pair[1])?;
     }
     writeln!(out, ".")
