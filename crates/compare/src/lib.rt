@@ -7,13 +7,14 @@ ghost use Rattle.std.specs.Cmp.Lexicographic.{slice_cmp};
 ghost use Rattle.cells.specs.Cells.{byte_of};
 ghost use Rattle.compare.specs.Compare.{compared_bytes};
 
+use cells::Byte;
 use std::cmp::Ordering;
 
 // The bytes of cells against bytes sent: the first that differs tells.
 fn by_first(on_track: &[u16], sent: &[u8]) -> Ordering
     ensures { result ≡ slice_cmp nat_cmp (map byte_of on_track.now) sent.now }
 {
-    let bytes = on_track.iter().map(|cell| (cell % 256) as u8);
+    let bytes = on_track.iter().map(|cell| cell.byte());
     bytes.cmp(sent.iter().copied())
 }
 

@@ -52,7 +52,7 @@ fn arrives(j: Job, x: Result<(Cylinder, Head), Row>) -> Report
                 cylinder,
                 head,
                 place: 0,
-                sense: Sense { byte0: 0, byte1: 0 },
+                sense: Sense::default(),
             },
             orders,
         },

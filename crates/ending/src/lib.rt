@@ -17,7 +17,7 @@ fn sense_after(j: Job) -> Sense
     ensures { result ≡ sense_after j }
 {
     if j.clears {
-        Sense { byte0: 0, byte1: 0 }
+        Sense::default()
     } else {
         j.position.sense
     }

@@ -9,6 +9,7 @@ ghost use Rattle.ending.specs.Ending.{report_at};
 ghost use Rattle.reads.specs.Inside.{LieIf, LieAll, Puts, record_given, many_given};
 
 use areas::Counts;
+use cells::Byte;
 use command::Job;
 use table::Names;
 use turn::{Report, Transfer};
@@ -64,7 +65,7 @@ fn put_cells(cells: &[u16], into: &mut [u8])
 {
     // Over both at once, by zip, the proof doesn't close: of what iter_mut lends there it knows the length alone.
     for (i, byte) in into.iter_mut().enumerate() {
-        *byte = (cells[i] % 256) as u8;
+        *byte = cells[i].byte();
     }
 }
 
@@ -128,11 +129,11 @@ fn many_given(counted: bool, names: Names, n: Counts) -> u32
 {
     match names {
         Names::Nothing => 0,
-        Names::HomeAddress => HOME_BYTES as u32,
+        Names::HomeAddress => u32::from(HOME_BYTES),
         Names::Count(key, body) => {
-            let count = bytes_if(counted, COUNT_SENT) as u32;
-            let keys = bytes_if(key, n.kl as u16) as u32;
-            count + keys + bytes_if(body, n.dl) as u32
+            let count = u32::from(bytes_if(counted, COUNT_SENT));
+            let keys = u32::from(bytes_if(key, u16::from(n.kl)));
+            count + keys + u32::from(bytes_if(body, n.dl))
         }
     }
 }
