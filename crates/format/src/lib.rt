@@ -42,6 +42,7 @@ fn lay_key(track: &mut [u16], first: usize, bytes: &[u8], n: Counts)
     ensures { track.new ≡ overlay track.old first (new_key n bytes.now) }
 {
     if 0 < n.kl {
+        // Casts, here and below: `From` is a call, and with it each answer has a step more for the same number.
         let kl = n.kl as u16;
         lay_area(track, first, kl as usize, bytes, COUNT_SENT, kl);
     }
