@@ -18,10 +18,7 @@ pub fn poplar_fresh(bytes: &mut [u8]) -> u8
     ensures { (result ≡ bit (eqb (length bytes.old) held_bytes))
         × (bytes.new ≡ pick (eqb (length bytes.old) held_bytes) (encoded fresh) bytes.old) }
 {
-    if held::put(bytes, Held::fresh()) {
-        return 1;
-    }
-    0
+    u8::from(held::put(bytes, Held::fresh()))
 }
 
 // Starts a chain. A start and a go differ in the call alone: a closure for it would be lent storage and cells again, and say again what comes back.

@@ -8,7 +8,7 @@ ghost use Rattle.cells.specs.Cells.{byte_of};
 ghost use Rattle.compare.specs.Compare.{compared_bytes};
 
 use cells::Byte;
-use std::cmp::Ordering;
+use core::cmp::Ordering;
 
 // The bytes of cells against bytes sent: the first that differs tells.
 fn by_first(on_track: &[u16], sent: &[u8]) -> Ordering

@@ -10,7 +10,7 @@ ghost use Rattle.searches.specs.Field.{field_first, field_length};
 
 use areas::Counts;
 use command::Job;
-use std::cmp::Ordering;
+use core::cmp::Ordering;
 use table::{How, Names};
 use turn::{Ending, Report, Transfer};
 

@@ -5,17 +5,12 @@ ghost use Rattle.std.specs.Prelude.{◌≡◌, List, ℕ, ◌+◌, length};
 ghost use Rattle.cells.specs.Cells.{be24};
 ghost use Rattle.words.specs.Words.{along, begun_by, word_at, tested_command, tested_word, tested, Storable, stored, status_for, channel_for, program_check};
 
-use std::ops::Range;
-
 // Addresses are taken modulo 2 to the 24.
 const ADDRESSES: u32 = 16777216;
 // The address word, and its byte with the key.
 const ADDRESS_WORD: u32 = 72;
 
 const KEY_BYTE: usize = ADDRESS_WORD as usize;
-// The status word.
-const STATUS_WORD: Range<usize> = 64..72;
-
 // A byte is two digits: what its left one counts.
 const DIGIT: u8 = 16;
 // A command word is 8 bytes on a multiple of 8.
@@ -206,21 +201,19 @@ pub fn program_check(key: u8, at: u32, cause: Cause) -> Status
     status_for(key, at, 0x00, channel_for(cause), 0)
 }
 
-// The status word stored. The key is half a byte, for which the library has no conversion.
+// The status word stored, at 64: one byte after another, since `channel` alone takes parts of storage. The key is half a byte.
 pub fn store_status(storage: &mut [u8], x: Status)
     requires { Storable storage.old x }
     ensures { storage.new ≡ stored storage.old x }
 {
     let [_, high, middle, low] = x.address.to_be_bytes();
     let [left_high, left_low] = x.left.to_be_bytes();
-    storage[STATUS_WORD].copy_from_slice(&[
-        x.key * DIGIT,
-        high,
-        middle,
-        low,
-        x.unit,
-        x.channel,
-        left_high,
-        left_low,
-    ]);
+    storage[64] = x.key * DIGIT;
+    storage[65] = high;
+    storage[66] = middle;
+    storage[67] = low;
+    storage[68] = x.unit;
+    storage[69] = x.channel;
+    storage[70] = left_high;
+    storage[71] = left_low;
 }
