@@ -137,7 +137,8 @@ fn data_bytes(n: Counts) -> u32
     u32::from(n.dl.max(1))
 }
 
-// The key area of the record whose count area is at a cell. It is absent if KL is 0.
+// The key area of the record whose count area is at a cell. It is absent if KL is 0. With the data area it has only the step over the count in common, so
+// each is a literal of its own.
 #[tactic(auto, unfolding(crate::specs::Areas::key_area))]
 pub fn key_area(c: u16, n: Counts) -> Area
     ensures { result ≡ key_area c n }
@@ -149,7 +150,7 @@ pub fn key_area(c: u16, n: Counts) -> Area
     }
 }
 
-// The data area of the record whose count area is at a cell. It shares no field with the key area, so each is a literal of its own.
+// The data area of the record whose count area is at a cell.
 #[tactic(auto, unfolding(crate::specs::Areas::data_area))]
 pub fn data_area(c: u16, n: Counts) -> Area
     ensures { result ≡ data_area c n }

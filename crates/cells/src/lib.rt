@@ -14,7 +14,7 @@ pub const TRACK_CELLS: usize = TRACK_END as usize;
 pub type Track = [u16; TRACK_CELLS];
 // The first cell that can hold an address marker.
 pub const FIRST_MARKER: u16 = 7;
-// An address marker.
+// An address marker: a cell is a number, as C lends it and as the model's `mark_at` reads it, so no enum.
 pub const MARKER: u16 = 512;
 
 // What holds a byte: a byte of storage, which is one, or a cell, whose low byte it is.

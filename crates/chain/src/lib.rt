@@ -36,7 +36,7 @@ fn command(g: Shape, h: Held, w: Word, storage: &mut [u8], cells: &mut [u16]) ->
 }
 
 // One command word. That all is legal stays a requires from here on: it is of shape, held state, storage and cells together, each of which a call
-// takes or changes apart from the rest.
+// takes or changes apart from the rest. Each arm is lent other things, so a match says it shortest.
 pub fn step(g: Shape, h: Held, storage: &mut [u8], cells: &mut [u16]) -> Held
     requires { Legal g (world h storage.old cells.old) }
     ensures { world result storage.new cells.new ≡ step g (world h storage.old cells.old) }

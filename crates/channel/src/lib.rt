@@ -29,7 +29,7 @@ const CHECK: u8 = 0x0E;
 
 const WRONG_LENGTH: u8 = 0x40;
 
-// The byte itself is what storage gets: the match is document 01's table.
+// The byte itself is what storage gets: the match is the table of REFERENCE 7.8.
 fn unit_status(e: Ending) -> u8
     ensures { result ≡ unit_status e }
 {
@@ -41,6 +41,8 @@ fn unit_status(e: Ending) -> u8
     }
 }
 
+// Each test here and below is one pattern over variants, of which some have a payload: equality would be no shorter, and a function for two of the tests
+// would take a closure with the same pattern in it.
 fn ends_well(e: Ending) -> bool
     ensures { result ≡ ends_well e }
 {
@@ -74,7 +76,7 @@ fn wants(m: Transfer) -> u32
     }
 }
 
-// Word and report stay two: one struct of both would only be taken apart again in each of these, and copied (DECISIONS 97).
+// Word and report stay two, here and below, as in `held_after` and `status_after` of the model: each clause would take a struct of both apart.
 fn bytes_moved(w: Word, d: Report) -> u16
     ensures { result ≡ bytes_moved w d }
 {
@@ -148,7 +150,8 @@ fn settle(c: Channel, w: Word, d: Report, storage: &mut [u8]) -> Held
     Held::rested(d.position)
 }
 
-// A job is asked; then it gives its bytes, or lays what it took, unless it ends in Unit Check.
+// A job is asked; then it gives its bytes, or lays what it took, unless it ends in Unit Check. To give reads the track and to lay changes it, so a match says
+// it shortest. `Sighted` is of two values, job and track, so it stays a requires.
 fn act(g: Shape, j: Job, area: &mut [u8], track: &mut Track) -> Report
     requires { Sighted (alone track.old) j }
     ensures { Acted (job_turn g track.old j area.old) area.old track.old
@@ -168,7 +171,7 @@ fn act(g: Shape, j: Job, area: &mut [u8], track: &mut Track) -> Report
     d
 }
 
-// A command has its turn on a track, with the area of storage that its word names.
+// A command has its turn on a track, with the area of storage that its word names. A row or a job: as two closures they would say no more than these arms.
 fn turn(g: Shape, h: Held, code: u8, area: &mut [u8], track: &mut Track) -> Report
     requires { SelectedOn (marks track.old) h.orders.selection }
     ensures { Acted (command g (alone track.old) h.position h.orders code area.old) area.old track.old

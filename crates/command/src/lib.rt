@@ -18,7 +18,7 @@ pub struct Task {
 }
 
 // A command that has read all that it names: its code; of its row what it does, which areas it names, whether DL 0 is Unit Exception, whether sense is
-// cleared; where the head stood, what it found, where it works, what the count area says there. The two flags are columns of the model's row.
+// cleared; where the head stood, what it found, where it works, what the count area says there. An Option would have nothing to hold beside the two flags.
 #[derive(Clone, Copy)]
 pub struct Job {
     pub code: u8,

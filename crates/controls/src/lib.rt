@@ -99,6 +99,7 @@ fn space(j: Job, track: &Track) -> Report
 {
     let before = table::rule_of(j.orders.before);
     let home = table::is_home(before.aim);
+    // It lies on the track: `try_from` would add an error that cannot come.
     let place = hunt::space_record(track, j.position.place, home) as u16;
     let task = Task {
         place,
@@ -124,7 +125,8 @@ pub fn control(g: Shape, k: Control, j: Job, sent: &[u8], track: &Track) -> Repo
     }
 }
 
-// The bytes that Sense gives, from one on, put into lent bytes, as many as find room.
+// The bytes that Sense gives, from one on, put into lent bytes, as many as find room. The number counts bytes of Sense, not the lent ones, so it goes beside
+// them.
 #[tactic(auto, unfolding(turn::specs::Turn::filled, command::specs::Command::sense_bytes, cells::specs::Cells::overlay))]
 pub fn give_sense(s: Position, from: u32, into: &mut [u8])
     ensures { into.new ≡ filled into.old from (sense_bytes s) }

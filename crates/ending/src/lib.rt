@@ -23,8 +23,8 @@ fn sense_after(j: Job) -> Sense
     }
 }
 
-// Where the head stands after a job that ends at the place of a task. A job with that task in it would be one more copy of a job (DECISIONS 97), so here
-// and below the two come apart.
+// Where the head stands after a job that ends at the place of a task. Here and below the two come apart, as in the model's `position_after j k`: Space Record
+// and Write Count Key Data end at a task that is not the job's.
 #[tactic(auto, unfolding(command::specs::Command::position_after, turn::specs::Turn::position_at))]
 pub fn position_after(j: Job, k: Task) -> Position
     ensures { result ≡ position_after j k }
@@ -82,7 +82,7 @@ pub fn ending_of(j: Job) -> Ending
     Ending::Normal
 }
 
-// Unit Check for a row of the table.
+// Unit Check for a row of the table. Position and orders stand apart, as in the model's `check_report s o row`: the clause would take a struct of both apart.
 #[tactic(auto, unfolding(crate::specs::Ending::check_report, turn::specs::Turn::with_sense, turn::specs::Turn::position_at))]
 pub fn failed(s: Position, o: Orders, row: Row) -> Report
     ensures { result ≡ check_report s o row }

@@ -22,7 +22,7 @@ const ONE_TRACK: Shape = Shape {
     heads: 1,
 };
 
-// The check over a text: the text is standard input.
+// The check over a text: the text is standard input. Texts, tracks and storage, here and below, are arrays: there is no heap.
 fn figure_10<R: Read, W: Write>(input: &mut R, out: &mut W) -> io::Result<()> {
     // A byte more than the longest text, so that one that is too long is seen.
     let mut buffer = [0u8; 65];
@@ -80,7 +80,7 @@ fn lay_track(track: &mut [u16; cells::TRACK_CELLS]) {
     lay_record(track, 58, 0x80, 3);
 }
 
-// A record of one byte, its number, from its marker on.
+// A record of one byte, its number, from its marker on: `recording` takes the track and a cell's number, and so does this.
 fn lay_record(track: &mut [u16], marker: usize, flag: u8, number: u8)
     requires { marker + 15 ≤ length track.old }
 {

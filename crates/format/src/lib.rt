@@ -25,7 +25,8 @@ pub fn new_counts(flag: u8, bytes: &[u8]) -> Counts
     }
 }
 
-// An area of n bytes recorded from a cell on, of the m bytes sent from an index on.
+// An area of n bytes recorded from a cell on, of the m bytes sent from an index on, which may lie past their end: so no slice of them. Here and below the cell
+// goes beside the track, since each clause says of the whole track what it is then, as the model's `area_written` does.
 pub fn lay_area(track: &mut [u16], first: usize, n: usize, bytes: &[u8], from: u16, m: u16)
     requires { Lies track.old first n }
     ensures { track.new ≡ area_written track.old first (part bytes.now from m) n }

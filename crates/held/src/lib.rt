@@ -9,7 +9,7 @@ use hunt::Spot;
 use pack::{Cylinder, Head};
 use rows::Sense;
 
-// The bytes that a host keeps, and the number of their layout.
+// The bytes that a host keeps, and the number of their layout: there is one, so no enum.
 const HELD_BYTES: usize = 64;
 
 const LAYOUT: u8 = 1;
@@ -29,7 +29,7 @@ pub struct Position {
 pub struct Orders {
     pub mask: u8,
     pub mask_set: bool,
-    // The code of the command before, 0 for none.
+    // The code of the command before, 0 for none, as byte 7 of REFERENCE 3.4 has it: no command has 0 for its right digit.
     pub before: u8,
     // Its search was equal over the whole field.
     pub whole: bool,
@@ -120,7 +120,7 @@ fn encodes_held(bytes: &[u8]) -> bool
         && zeros_from(bytes, 24)
 }
 
-// The selection, by its number in document 01's layout.
+// The selection, by its number in byte 10 of REFERENCE 3.4, which C reads.
 #[tactic(auto, using(cells::proofs::Tests::tests), unfolding(crate::specs::Held::selection_in))]
 fn selection_in(bytes: &[u8]) -> Option<Spot>
     ensures { result ≡ selection_in bytes.now }
@@ -132,6 +132,7 @@ fn selection_in(bytes: &[u8]) -> Option<Spot>
     }
 }
 
+// Position, orders and channel, each field from its own bytes of REFERENCE 3.4: the three literals have no field in common.
 #[tactic(auto, unfolding(crate::specs::Held::decoded))]
 fn position_in(bytes: &[u8]) -> Position
     ensures { result ≡ (decoded bytes.now).position }
@@ -206,7 +207,7 @@ pub fn keep(bytes: &[u8]) -> Option<Held>
     None
 }
 
-// A selection's number, and the selected marker's cell, 0 where no marker is selected.
+// A selection's number in byte 10 of REFERENCE 3.4, which C reads, and the selected marker's cell, 0 where no marker is selected.
 fn selection_parts(selection: Option<Spot>) -> (u8, u16)
     ensures { result ≡ (selection_no selection, selection_cell selection) }
 {

@@ -30,7 +30,7 @@ const STATUS_UNIT: usize = 68;
 
 const STATUS_CHANNEL: usize = 69;
 
-// With document 01's numbers.
+// With document 01's numbers. C is told one number for good ends and refusals alike, so they are one enum.
 #[derive(Clone, Copy)]
 pub enum Answer {
     ChainEnded = 0,
@@ -117,7 +117,7 @@ fn held_fits(g: Shape, h: Held, cells: &[u16]) -> bool
     orders_fit(&cells[start..start + cells::TRACK_CELLS], orders)
 }
 
-// Refusals 2 and 3, in order.
+// Refusals 2 and 3, in order. Here and below the numbers are of what is lent, of which a shape knows nothing, so they stay beside it.
 fn sizes_fit(g: Shape, storage: usize, count: usize) -> Result<(), Answer>
     ensures { result ≡ guard_sizes g storage count }
 {

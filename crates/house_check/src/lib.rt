@@ -32,7 +32,8 @@ fn shift(r: u16) -> u16
     r << 1
 }
 
-// The low byte of a cell into the register: the byte goes into the register's high byte, and eight zeros follow.
+// The low byte of a cell into the register: the byte goes into the register's high byte, and eight zeros follow. By arrays of bytes the cell would be taken
+// apart and put together for this one step.
 fn byte_in(r: u16, cell: u16) -> u16
     ensures { result ≡ feed r (byte_bits cell []) }
 {
@@ -52,7 +53,8 @@ fn by_bits(cells: &[u16]) -> u16
 
 // ---- by the table
 
-// Cells into the register, one look into the table for each.
+// Cells into the register, one look into the table for each, as the model's `table_step` has it: arrays of bytes would say it longer. Tables and words, here
+// and below, are arrays with a fixed length: there is no heap, and a byte is always an index of the table.
 fn by_table(table: &[u16; 256], start: u16, cells: &[u16]) -> u16
     requires { table.now ≡ remainders }
     ensures { result ≡ table_feed start (bytes_of cells.now) }
@@ -76,7 +78,7 @@ struct Rest {
     d: u64,
 }
 
-// Four cells as a word.
+// Four cells as a word. The library makes numbers of bytes, not of four numbers of 16 bits: the cells would have to be taken apart first.
 fn word(cells: &[u16; WORD_CELLS]) -> u64
     ensures { bits (cells_in result) ≡ bits cells.now }
 {
@@ -87,7 +89,8 @@ fn word(cells: &[u16; WORD_CELLS]) -> u64
         + u64::from(d) * 0x1000000000000
 }
 
-// Four cells more. The first four of the rest go into those 4, 11 and 16 cells later, and are left out.
+// Four cells more. The first four of the rest go into those 4, 11 and 16 cells later, and are left out. Shifts here and below multiply and divide polynomials:
+// no number is taken apart.
 fn fold(s: Rest, w: u64) -> Rest
     ensures { check (rest result) ≡ feed (check (rest s)) (bits (cells_in w)) }
 {
@@ -166,7 +169,8 @@ pub fn check_of(cells: &[u16]) -> u16
     by_folding(cells)
 }
 
-// Whether cells are all recorded bytes. There is no early end, so that the compiler can look at eight cells at once.
+// Whether cells are all recorded bytes. There is no early end, so that the compiler can look at eight cells at once. The division is the model's `is_byte`,
+// and the test all that differs from `is_bare` of hunt: a function for both would take it as a closure, of which its clause would have to speak.
 pub fn all_bytes(cells: &[u16]) -> bool
     ensures { result ≡ all_bytes cells.now }
 {

@@ -27,7 +27,8 @@ pub fn is_marker(track: &[u16], at: u16) -> bool
     cells::FIRST_MARKER <= at && track.get(usize::from(at)) == Some(&cells::MARKER)
 }
 
-// Whether none of some cells holds a marker. There is no early end, so that the compiler can look at eight cells at once.
+// Whether none of some cells holds a marker. There is no early end, so that the compiler can look at eight cells at once. `all_bytes` of house_check differs
+// in the test: a function for both would be this one fold, with the test as a closure, of which its clause would have to speak.
 fn is_bare(cells: &[u16]) -> bool
     ensures { result ≡ markerless cells.now }
 {

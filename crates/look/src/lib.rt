@@ -13,7 +13,7 @@ use cells::Track;
 // The numbers that an area is told in: C lends so many.
 const AREA_NUMBERS: usize = 2;
 
-// What cells that are no track are answered.
+// What cells that are no track are answered: C is told so (`poplar_marker`).
 const NO_TRACK: u16 = 65535;
 
 // The error of a look: why no readable area is seen. One that is absent, or not known, has no place to tell.

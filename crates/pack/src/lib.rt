@@ -35,7 +35,7 @@ fn cells_on(g: Shape) -> usize
     g.cylinders as usize * g.heads as usize * cells::TRACK_CELLS
 }
 
-// Whether a pack's shape is right, and its number of cells.
+// Whether a pack's shape is right, and its number of cells: those that are lent, of which a shape knows nothing, so they stay two.
 #[tactic(auto, unfolding(crate::specs::Pack::pack_fits))]
 pub fn pack_fits(g: Shape, count: usize) -> bool
     ensures { result ≡ pack_fits g count }
@@ -45,7 +45,7 @@ pub fn pack_fits(g: Shape, count: usize) -> bool
         && count == cells_on(g)
 }
 
-// Where Seek and Seek Cylinder go.
+// Where Seek and Seek Cylinder go: by tests of BB and the cylinder, and then as Seek Head. No test stands in both.
 #[tactic(auto, using(cells::proofs::Tests::tests), unfolding(crate::specs::Pack::seek_to, crate::specs::Pack::seek_head))]
 pub fn seek_to(g: Shape, bb: u16, c: Cylinder, h: Head) -> Result<(Cylinder, Head), Row>
     ensures { result ≡ seek_to g bb c h }

@@ -14,6 +14,7 @@ use command::Job;
 use table::Names;
 use turn::{Report, Transfer};
 
+// The bytes of a home address without its check, in this type here.
 const HOME_BYTES: u16 = 5;
 
 // A count's flag does not move, the bytes behind it do.
@@ -29,7 +30,7 @@ struct Filling {
     from: usize,
 }
 
-// Which parts of a record are given: its count's bytes, its key, its data.
+// Which parts of a record are given: its count's bytes, its key, its data. No flag has a value beside it, and `record_given` of the model asks for each.
 #[derive(Clone, Copy)]
 struct Parts {
     counted: bool,
@@ -57,7 +58,7 @@ fn cells_at(track: &[u16], first: u32, n: u16) -> &[u16]
     &track[first..first + usize::from(n)]
 }
 
-// The bytes of as many cells.
+// The bytes of as many cells. `record_given` of recording makes cells of bytes: one function for both would take the step as a closure, and its clause too.
 #[tactic(auto, using(crate::proofs::Laws::bytes_more, crate::proofs::Laws::bytes_all))]
 fn put_cells(cells: &[u16], into: &mut [u8])
     requires { length cells.now ≡ length into.old }
@@ -84,7 +85,7 @@ fn put(cells: &[u16], r: Filling, into: &mut [u8]) -> Filling
     }
 }
 
-// The bytes of a record: of its count, its key and its data those that are named, all from the track.
+// The bytes of a record: of its count, its key and its data those that are named. `areas` counts cells from the track's start, so the track goes whole.
 fn put_record(p: Parts, c: u16, n: Counts, track: &[u16], r: Filling, into: &mut [u8]) -> Filling
     requires { LieAll track.now p c n × (r.at ≤ length into.old) }
     ensures { Puts into.old r (record_given track.now p c n) into.new result }
@@ -99,7 +100,8 @@ fn put_record(p: Parts, c: u16, n: Counts, track: &[u16], r: Filling, into: &mut
     put(body, keyed, into)
 }
 
-// The bytes that a read gives, from one on, as many as find room.
+// The bytes that a read gives, from one on, as many as find room: the number counts them and not the lent ones, so it goes beside these. Each arm gives other
+// cells, so a match says it shortest. `Sighted` is of two values, job and track, so it stays a requires.
 pub fn give(counted: bool, j: Job, track: &[u16], from: u32, into: &mut [u8])
     requires { Sighted (alone track.now) j }
     ensures { (v : List ℕ) → into.new

@@ -57,7 +57,8 @@ fn record_check(area: &mut [u16])
     area[n + 1] = ZERO + sum % 256;
 }
 
-// An area of n bytes recorded from a cell on, with its check.
+// An area of n bytes recorded from a cell on, with its check; n stands beside the bytes, which may be fewer or more. Here and below the cell goes beside the
+// track, since the clause says of the whole track what it is then, as the model's `area_written` and `count_written` do.
 pub fn write_area(track: &mut [u16], first: usize, bytes: &[u8], n: usize)
     requires { Lies track.old first n }
     ensures { track.new ≡ area_written track.old first bytes.now n }

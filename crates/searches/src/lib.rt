@@ -14,7 +14,7 @@ use core::cmp::Ordering;
 use table::{How, Names};
 use turn::{Ending, Report, Transfer};
 
-// Cells of a flag, and of a count area with its check.
+// Cells of a flag, and of a count area with its check, in this type here.
 const FLAG: usize = 1;
 
 const COUNT: usize = 11;
@@ -93,7 +93,7 @@ fn field_length(names: Names, n: Counts) -> u16
     }
 }
 
-// What a search tells that has read its field.
+// What a search tells that has read its field. `Sighted` is of two values, job and track, so it stays a requires.
 pub fn search(h: How, j: Job, sent: &[u8], track: &[u16]) -> Report
     requires { Sighted (alone track.now) j }
     ensures { result ≡ report_of (search_turn h (sight (alone track.now) j sent.now)) }

@@ -54,7 +54,8 @@ fn read_record(track: &[u16], c: u16, key: bool, body: bool) -> Result<Counts, R
     read_named(track, c, key, body, n)
 }
 
-// All that a command names, checked. The home address has no count. Each arm names other areas, so a match says it shortest.
+// All that a command names, checked. The home address has no count: its values are 0 then, as in the model's `counts_in`. Each arm names other areas, so a
+// match says it shortest.
 pub fn get(track: &[u16], n: Names, c: u16) -> Result<Counts, Row>
     ensures { (h : Head) → result ≡ gets n (alone track.now) h c }
 {

@@ -63,7 +63,8 @@ pub enum Aim {
     Selected,
 }
 
-// Which areas it reads: none; the home address; of the record its count, with the key or not, with the data or not. The model's rows name these flags.
+// Which areas it reads: none; the home address; of the record its count, with the key or not, with the data or not. Three cases, so no Option; and no value
+// stands beside the two flags, so an Option would have nothing to hold.
 #[derive(Clone, Copy)]
 pub enum Names {
     Nothing,
@@ -90,7 +91,7 @@ pub enum Control {
     SpaceRecord,
 }
 
-// The last one writes data, with the key or not, a flag by the model's `Update key`.
+// Four writes, so no Option. The last one writes data, with the key or not: a flag with no value beside it, so an Option would have nothing to hold.
 #[derive(Clone, Copy)]
 pub enum Write {
     HomeAddress,
@@ -99,8 +100,8 @@ pub enum Write {
     Update(bool),
 }
 
-// What it does with what it has read: a search compares it with the bytes sent; a read gives its bytes, of a count 8 or none. Four cases, so no Result;
-// the flag is the model's `Read counted`.
+// What it does with what it has read: a search compares it with the bytes sent; a read gives its bytes, of a count 8 or none, by a flag with no value beside
+// it for an Option to hold. Four cases, so no Result.
 #[derive(Clone, Copy)]
 pub enum Act {
     Control(Control),
@@ -109,7 +110,8 @@ pub enum Act {
     Write(Write),
 }
 
-// A row of the table. It may leave its record selected; DL = 0 may be Unit Exception; it may clear sense first: flags, as the columns of the model.
+// A row of the table. It may leave its record selected; DL = 0 may be Unit Exception; it may clear sense first. Beside the last two stands no value; `selects`
+// and `serves` are two columns in REFERENCE 4.4 and in the definition table:Table.rule_of, which may not change: 15 and 1D select, and serve nobody.
 #[derive(Clone, Copy)]
 pub struct Rule {
     pub licence: Licence,

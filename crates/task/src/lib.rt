@@ -19,7 +19,8 @@ use pack::Head;
 use rows::Row;
 use table::{Act, Aim, Bar, Licence, Rule, Serves};
 
-// The command before is held as its code, the byte that the channel sent, and the model tests it by these: an enum would be a second table of codes.
+// The command before is held as its code, the byte that the channel sent: `equal_id`, `equal_id_or_key`, `home_done` and `record_written` of the model, which
+// may not change, compare that byte with these numbers.
 const SEARCH_ID_EQUAL: u8 = 0x31;
 
 const SEARCH_KEY_EQUAL: u8 = 0x29;
@@ -95,7 +96,7 @@ fn licensed(l: Licence, o: Orders) -> bool
     }
 }
 
-// Whether a command counts the index points that it passes.
+// Whether a command counts the index points that it passes: a search, with anything in it, for which equality would not do.
 #[tactic(auto, unfolding(command::specs::Command::tallies))]
 fn is_tallying(a: Act) -> bool
     ensures { result ≡ tallies a }
@@ -148,7 +149,7 @@ fn on_selected(r: Rule, o: Orders, h: Head) -> Result<Task, Row>
     on_record(r, o, h, spot, 0)
 }
 
-// The next record.
+// The next record. Position and orders stand apart here and below, as in the model's `to_next r m s o`: each clause would take a struct of both apart.
 #[tactic(auto, unfolding(command::specs::Command::to_next, command::specs::Command::marks_of))]
 fn to_next(r: Rule, track: &Track, s: Position, o: Orders) -> Result<Task, Row>
     ensures { result ≡ to_next r (marks_of (alone track.now)) s o }

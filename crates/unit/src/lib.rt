@@ -15,7 +15,8 @@ use rows::Row;
 use table::{Act, Control, Rule};
 use turn::Report;
 
-// All that a task names is read.
+// All that a task names is read. Position and orders stand apart here and below, as in the model's `ready_by t code r s o`: each clause would take a struct
+// of both apart.
 fn read(code: u8, r: Rule, s: Position, o: Orders, k: Task, track: &[u16]) -> Result<Job, Row>
     ensures { result ≡ ready_by (alone track.now) code r s o (Ok k) }
 {
@@ -46,6 +47,7 @@ pub fn ready(code: u8, track: &Track, s: Position, o: Orders) -> Result<Job, Row
 }
 
 // What a job reports. That its areas are readable on the track (`Sighted`) stays a requires: it is of two values, and the track is changed without the job.
+// Each act has arguments of its own, so a table of functions would be no plainer; so in `give`.
 pub fn ask(g: Shape, j: Job, sent: &[u8], track: &Track) -> Report
     requires { Sighted (alone track.now) j }
     ensures { result ≡ report_of (job_turn g track.now j sent.now) }
@@ -59,7 +61,7 @@ pub fn ask(g: Shape, j: Job, sent: &[u8], track: &Track) -> Report
     }
 }
 
-// The bytes that a control command gives: those of Sense.
+// The bytes that a control command gives: those of Sense. Here and below the number counts bytes that are given, not the lent ones, so it goes beside them.
 fn give_control(k: Control, j: Job, from: u32, into: &mut [u8])
     ensures { (g : Shape) (t : Tracks) (v : List ℕ) → into.new
         ≡ filled into.old from (given (control_turn g k (sight t j v)).moves) }

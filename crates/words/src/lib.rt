@@ -178,7 +178,8 @@ pub fn status_for(key: u8, at: u32, unit: u8, channel: u8, left: u16) -> Status
     }
 }
 
-// The channel status of a program check: document 01's table, a cause a line as the model has it, though all lines say the same today.
+// The channel status of a program check, a line for each cause as in the definition words:Words.channel_for, which may not change, and as REFERENCE 7.3 has a
+// row for each: a constant with a cause that nothing reads would be no plainer.
 #[tactic(auto, unfolding(crate::specs::Words::channel_for))]
 fn channel_for(cause: Cause) -> u8
     ensures { result ≡ channel_for cause }

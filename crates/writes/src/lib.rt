@@ -20,8 +20,9 @@ use rows::Row;
 use table::Write;
 use turn::{Ending, Report, Transfer};
 
+// The bytes of a home address without its check, in this type here.
 const HOME_BYTES: u8 = 5;
-// Bytes of a count that are sent.
+// Bytes of a count that are sent, in this type here.
 const COUNT_SENT: u32 = 8;
 
 // Bytes of the key that are sent.
