@@ -39,7 +39,7 @@ fn addressed(g: Shape, k: Seeking, c: Cylinder, sent: &[u8]) -> Result<(Cylinder
 }
 
 // The orders come before the match: taken in its arm, they kept the whole job in memory, and every command paid (DECISIONS 97).
-#[tactic(auto, unfolding(command::specs::Command::arrival_turn, command::specs::Command::sight, turn::specs::Turn::report_of, turn::specs::Turn::transfer_of, turn::specs::Turn::position_sought, turn::specs::Turn::position_at))]
+#[tactic(auto, using(crate::proofs::Laws::arrived, crate::proofs::Laws::not_arrived), unfolding(turn::specs::Turn::position_sought, turn::specs::Turn::position_at))]
 fn arrives(j: Job, x: Result<(Cylinder, Head), Row>) -> Report
     ensures { (t : Tracks) (v : List ℕ) → result ≡ report_of (arrival_turn (sight t j v) x) }
 {
@@ -60,7 +60,7 @@ fn arrives(j: Job, x: Result<(Cylinder, Head), Row>) -> Report
     }
 }
 
-#[tactic(auto, unfolding(command::specs::Command::masked_turn, command::specs::Command::sight, turn::specs::Turn::report_of, turn::specs::Turn::transfer_of, turn::specs::Turn::orders_of))]
+#[tactic(auto, using(crate::proofs::Laws::masked_told), unfolding(turn::specs::Turn::orders_of))]
 fn masked(j: Job, byte: u8) -> Report
     ensures { (t : Tracks) (v : List ℕ) → result ≡ report_of (masked_turn (sight t j v) byte) }
 {
@@ -111,7 +111,7 @@ fn space(j: Job, track: &Track) -> Report
 }
 
 // What a control command reports. Each arm has arguments of its own, so a table of functions would be no plainer.
-#[tactic(auto, unfolding(command::specs::Command::control_turn, command::specs::Command::no_op_turn, command::specs::Command::sense_turn, command::specs::Command::seek_turn, command::specs::Command::sight, command::specs::Command::end_turn, command::specs::Command::end_turn_at, command::specs::Command::sense_bytes, turn::specs::Turn::report_of, turn::specs::Turn::transfer_of, ending::specs::Ending::report_at))]
+#[tactic(auto, using(crate::proofs::Laws::tells))]
 pub fn control(g: Shape, k: Control, j: Job, sent: &[u8], track: &Track) -> Report
     ensures { result ≡ report_of (control_turn g k (sight (alone track.now) j sent.now)) }
 {

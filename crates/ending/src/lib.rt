@@ -99,7 +99,7 @@ pub fn failed(s: Position, o: Orders, row: Row) -> Report
 }
 
 // Unit Check of a job.
-#[tactic(auto, unfolding(command::specs::Command::sight, command::specs::Command::fail_turn, turn::specs::Turn::check_turn, turn::specs::Turn::report_of, turn::specs::Turn::transfer_of, crate::specs::Ending::check_report))]
+#[tactic(auto, using(crate::proofs::Laws::job_failed))]
 pub fn fails(j: Job, row: Row) -> Report
     ensures { (t : Tracks) (v : List ℕ) → result ≡ report_of (fail_turn (sight t j v) row) }
 {

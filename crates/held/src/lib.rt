@@ -53,9 +53,9 @@ pub struct Held {
     pub channel: Channel,
 }
 
+#[tactic(auto, unfolding(crate::specs::Held::fresh, crate::specs::Held::fresh_position, crate::specs::Held::fresh_orders, crate::specs::Held::fresh_channel))]
 impl Held {
     // The fresh box.
-    #[tactic(auto, unfolding(crate::specs::Held::fresh, crate::specs::Held::fresh_position, crate::specs::Held::fresh_orders, crate::specs::Held::fresh_channel))]
     pub fn fresh() -> Held
         ensures { result ≡ fresh }
     {

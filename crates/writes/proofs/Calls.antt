@@ -148,3 +148,6 @@ module _ (t v : List ℕ) (j : Job) (w : Write) (s : DoesWrite j w) where
       pub lays_update : (u : List ℕ) → u ≡ updated t key j.task.place j.counts v → u ≡ lay (write_turn w x).lays t
       unfolding sight write_turn
       lays_update u f = laid_by (Write.Update key) u e (f ∙ update_lays x key _ _ t seen-recorded)
+
+-- what a write lays, write by write
+pub ruleset lays = (lays_home, r0_room, lays_r0, record_room, lays_record, update_over, lays_update)

@@ -136,3 +136,6 @@ module _ (t v : List ℕ) (j : Job) (w : Write) (s : DoesWrite j w) (r : Report)
 
   pub tells_over : (key : Bool) → w ≡ Write.Update key → r ≡ report_of (write_turn (Write.Update key) (x t j v)) → r ≡ report_of (write_turn w (x t j v))
   tells_over key e f = told_by (Write.Update key) e f
+
+-- what a write tells, write by write
+pub ruleset tells = (tells_home, tells_r0, tells_record, tells_over)

@@ -113,7 +113,7 @@ fn write_over(key: bool, j: Job, track: &[u16]) -> Report
 
 // How a write ends, the bytes that it takes, and what is held then. It lays nothing. Each arm has arguments of its own, so a table of functions would be
 // no plainer; so in `lay`.
-#[tactic(auto, using(crate::proofs::Report::tells_home, crate::proofs::Report::tells_r0, crate::proofs::Report::tells_record, crate::proofs::Report::tells_over))]
+#[tactic(auto, using(crate::proofs::Report::tells))]
 pub fn write(w: Write, j: Job, sent: &[u8], track: &[u16]) -> Report
     requires { DoesWrite j w }
     ensures { result ≡ report_of (write_turn w (sight (alone track.now) j sent.now)) }
@@ -197,7 +197,7 @@ fn update(key: bool, c: u16, n: Counts, sent: &[u8], track: &mut [u16])
 }
 
 // What a write lays that ends in no Unit Check.
-#[tactic(auto, using(crate::proofs::Calls::lays_home, crate::proofs::Calls::r0_room, crate::proofs::Calls::lays_r0, crate::proofs::Calls::record_room, crate::proofs::Calls::lays_record, crate::proofs::Calls::update_over, crate::proofs::Calls::lays_update))]
+#[tactic(auto, using(crate::proofs::Calls::lays))]
 pub fn lay(w: Write, j: Job, sent: &[u8], track: &mut Track)
     requires { DoesWrite j w × (is_check (write_turn w (sight (alone track.old) j sent.now)).ending ≡ false) }
     ensures { track.new ≡ lay (write_turn w (sight (alone track.old) j sent.now)).lays track.old }
