@@ -1,6 +1,6 @@
 -- Laws of areas: an area off the track is not readable; one on it is readable where its cells are good; a count area's values are
 -- those of its cells; how many cells a record takes.
-use Prim.Native.Nat.{ℕ, ◌+◌, ◌-◌, ◌*◌, ◌/◌, ◌%◌, ◌<◌, ◌≤◌, ◌^◌, min}
+use Prim.Native.Nat.{ℕ, zero, suc, ◌+◌, ◌-◌, ◌*◌, ◌/◌, ◌%◌, ◌<◌, ◌≤◌, ◌^◌, min}
 use mathlib.Core.Path.{◌≡◌, refl, sym, ap, ap₂, ◌∙◌}
 use mathlib.Core.Bool.{Bool, false}
 use mathlib.Core.List.{List}
@@ -15,9 +15,10 @@ use Rattle.cells.proofs.Laws.{get_or-bytes_of}
 use Rattle.house_check.specs.Check.{agrees, good_cells}
 use Rattle.areas.specs.declared.{Area.Area, Counts.Counts}
 use Rattle.areas.specs.Areas.{home_area, home_flag, area_cells, readable, area_bytes, count_area, counts_of, counts_at, key_cells, flag_after}
+use Rattle.areas.specs.Parts.{part_no, part_named}
 use mathlib.Core.Logic.{◌⊎◌, inl, inr}
 use denote.Bor.{Bor}
-use Rattle.std.specs.Prelude.{Some, None, Option}
+use Rattle.std.specs.Prelude.{Some, None, Option, MatchResult}
 use lib.Bits.{bit_and, bit_or}
 use Rattle.std.proofs.lemmas.Grind.{and_numeral, and_high_numeral}
 use Rattle.std.proofs.lemmas.Nat.{or_shifted}
@@ -116,3 +117,15 @@ unfolding flag_after
 flag_bits b h =
     let high : bit_and (255 - b) 128 ≡ (1 - b / 128) * 2 ^ 7 = omega (arith, and_high_numeral (255 - b) 127 refl (omega arith)) in
     rw (high, and_numeral b 2 refl) (or_shifted (1 - b / 128) 7 (b % 4) (omega arith))
+
+-- ---- a part by its number
+
+pub names_part : (p : ℕ) → MatchResult (part_named p) (λ part. part_no part ≡ p) (λ e. (e.0 ≡ p) × (3 < p))
+unfolding part_named
+names_part zero = refl
+names_part (suc zero) = refl
+names_part (suc (suc zero)) = refl
+names_part (suc (suc (suc zero))) = refl
+names_part (suc (suc (suc (suc n)))) =
+    let no = λ (k : ℕ) (h : k < 4). ne_eqb (suc (suc (suc (suc n)))) k (λ e. omega arith) in
+    rw (no 0 (lit< tt), no 1 (lit< tt), no 2 (lit< tt), no 3 (lit< tt)) (refl, omega arith)

@@ -1,5 +1,6 @@
 -- The parts of a track by their numbers.
-use Rattle.std.specs.Prelude.{ℕ, ◌≡◌, ◌<◌, Result, MatchResult}
+use Rattle.std.specs.Prelude.{ℕ, eqb, Ok, Err, Result}
+use Rattle.cells.specs.Cells.{pick}
 use Rattle.areas.specs.declared.{Part.Part}
 use Rattle.areas.specs.declared.numbers.NoPart.{NoPart}
 
@@ -11,5 +12,6 @@ part_no Part.Key = 2
 part_no Part.Data = 3
 
 -- the part of a number, or the number where it is no part's
-abbrev pub NamesPart : ℕ → Result Part NoPart → Type 0
-NamesPart p r = MatchResult r (λ part. part_no part ≡ p) (λ e. (e.0 ≡ p) × (3 < p))
+unfoldable pub part_named : ℕ → Result Part NoPart
+part_named p =
+    pick (eqb p 0) (Ok Part.Home) (pick (eqb p 1) (Ok Part.Count) (pick (eqb p 2) (Ok Part.Key) (pick (eqb p 3) (Ok Part.Data) (Err (record { 0 = p })))))

@@ -1,5 +1,6 @@
 // The parts of a track by their numbers.
-ghost use Rattle.areas.specs.Parts.{NamesPart};
+ghost use Rattle.std.specs.Prelude.{◌≡◌};
+ghost use Rattle.areas.specs.Parts.{part_named};
 
 use crate::Part;
 
@@ -10,8 +11,9 @@ pub struct NoPart(pub u8);
 impl TryFrom<u8> for Part {
     type Error = NoPart;
 
-    ghost try_from_gives = { NamesPart };
+    ghost try_from_gives = { λ p r. r ≡ part_named p };
 
+    #[tactic(auto, unfolding(crate::specs::Parts::part_named))]
     fn try_from(p: u8) -> Result<Self, NoPart> {
         match p {
             0 => Ok(Part::Home),
