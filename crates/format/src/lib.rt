@@ -9,7 +9,7 @@ ghost use Rattle.format.specs.Format.{new_counts, new_key, new_record, recorded,
 use areas::{Area, Counts};
 
 // The bytes of a count area that are sent, before those of key and data.
-const COUNT_SENT: u16 = 8;
+pub const COUNT_SENT: u16 = 8;
 
 // What the count of a new record says, by its flag and the bytes sent.
 pub fn new_counts(flag: u8, bytes: &[u8]) -> Counts

@@ -21,10 +21,6 @@ const MOST_STORAGE: usize = 16777216;
 
 const KEYS: u8 = 16;
 
-const ADDRESSES: u32 = 16777216;
-
-const MOST_TALLY: u8 = 1;
-
 // The status word's bytes of unit and channel status.
 const STATUS_UNIT: usize = 68;
 
@@ -73,7 +69,7 @@ fn position_fits(g: Shape, s: Position) -> bool
 fn channel_fits(c: Channel) -> bool
     ensures { result ≡ channel_fits c }
 {
-    c.key < KEYS && c.next < ADDRESSES
+    c.key < KEYS && c.next < words::ADDRESSES
 }
 
 // R0 and a marker are told apart here: in a function of its own their tag and cell were read as one number, with a byte that nothing sets (DECISIONS 71).
@@ -93,7 +89,7 @@ fn orders_fit(track: &[u16], o: Orders) -> bool
     ensures { result ≡ orders_fit (marks track.now) o }
 {
     let selection = o.selection;
-    table::is_mask(o.mask) && (o.tally <= MOST_TALLY && selection_fits(track, o, selection))
+    table::is_mask(o.mask) && (o.tally <= task::MOST_TALLY && selection_fits(track, o, selection))
 }
 
 // Refusal 4. It looks at one track at most.

@@ -20,8 +20,6 @@ const HOME_BYTES: u16 = 5;
 // A count's flag does not move, the bytes behind it do.
 const FLAG: u32 = 1;
 
-const COUNT_SENT: u16 = 8;
-
 // Where the next byte goes, and how many bytes are left out before it. The lent bytes go beside it: with them in it, each part would have to take
 // them out and give back what is left of them.
 #[derive(Clone, Copy)]
@@ -90,7 +88,7 @@ fn put_record(p: Parts, c: u16, n: Counts, track: &[u16], r: Filling, into: &mut
     requires { LieAll track.now p c n × (r.at ≤ length into.old) }
     ensures { Puts into.old r (record_given track.now p c n) into.new result }
 {
-    let count = cells_at(track, u32::from(c) + FLAG, bytes_if(p.counted, COUNT_SENT));
+    let count = cells_at(track, u32::from(c) + FLAG, bytes_if(p.counted, format::COUNT_SENT));
     let counted = put(count, r, into);
     let keys = areas::key_area(c, n);
     let key = cells_at(track, keys.first, bytes_if(p.key, u16::from(n.kl)));
@@ -133,7 +131,7 @@ fn many_given(counted: bool, names: Names, n: Counts) -> u32
         Names::Nothing => 0,
         Names::HomeAddress => u32::from(HOME_BYTES),
         Names::Count(key, body) => {
-            let count = u32::from(bytes_if(counted, COUNT_SENT));
+            let count = u32::from(bytes_if(counted, format::COUNT_SENT));
             let keys = u32::from(bytes_if(key, u16::from(n.kl)));
             count + keys + u32::from(bytes_if(body, n.dl))
         }

@@ -37,7 +37,7 @@ const WRITE_COUNT_KEY_DATA: u8 = 0x1D;
 const HOME_PLACE: u16 = 1;
 
 // Search ID and Key may pass one index point in a row.
-const MOST_TALLY: u8 = 1;
+pub const MOST_TALLY: u8 = 1;
 
 #[tactic(auto, unfolding(command::specs::Command::equal_id))]
 fn equal_id(before: u8, whole: bool) -> bool

@@ -6,7 +6,7 @@ ghost use Rattle.cells.specs.Cells.{be24};
 ghost use Rattle.words.specs.Words.{along, begun_by, word_at, tested_command, tested_word, tested, Storable, stored, status_for, channel_for, program_check};
 
 // Addresses are taken modulo 2 to the 24.
-const ADDRESSES: u32 = 16777216;
+pub const ADDRESSES: u32 = 16777216;
 // The address word, and its byte with the key.
 const ADDRESS_WORD: u32 = 72;
 
