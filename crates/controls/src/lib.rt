@@ -39,7 +39,7 @@ fn addressed(g: Shape, k: Seeking, c: Cylinder, sent: &[u8]) -> Result<(Cylinder
 }
 
 // The orders come before the match: taken in its arm, they kept the whole job in memory, and every command paid (DECISIONS 97).
-#[tactic(auto, using(crate::proofs::Laws::arrived, crate::proofs::Laws::not_arrived), unfolding(turn::specs::Turn::position_sought, turn::specs::Turn::position_at))]
+#[tactic(auto, using(crate::proofs::Laws::arrivals))]
 fn arrives(j: Job, x: Result<(Cylinder, Head), Row>) -> Report
     ensures { (t : Tracks) (v : List ℕ) → result ≡ report_of (arrival_turn (sight t j v) x) }
 {
@@ -80,7 +80,7 @@ fn masked(j: Job, byte: u8) -> Report
 }
 
 // A bad byte is told before a second mask.
-#[tactic(auto, using(cells::proofs::Tests::first_picked, cells::proofs::Tests::second_picked), unfolding(command::specs::Command::mask_turn, command::specs::Command::sight))]
+#[tactic(auto, using(crate::proofs::Laws::picked), unfolding(command::specs::Command::mask_turn, command::specs::Command::sight))]
 fn set_mask(j: Job, byte: u8) -> Report
     ensures { (t : Tracks) (v : List ℕ) → result ≡ report_of (mask_turn (sight t j v) byte) }
 {

@@ -36,6 +36,11 @@ of_every p h c =
     (found p c searches _ (first_of (each p searches) _ h1)
     (found p c reads _ (first_of (each p reads) _ h2) (found p c writes _ (first_of (each p writes) _ h3) (second_of (each p writes) _ h3))))
 
+-- to unfold this is to unfold the whole table
+unfoldable pub row_of_code : ℕ → Rule
+unfolding rule_of find controls searches reads writes
+row_of_code c = rule_of c
+
 -- ---- two bits
 
 pub tabled : (test : ℕ → Bool) (n : ℕ) → n < 4 → test n ≡ get_or (test 0 ∷ test 1 ∷ test 2 ∷ test 3 ∷ []) n false

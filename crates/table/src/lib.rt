@@ -320,7 +320,7 @@ const WRITE_KEY_DATA: Rule = Rule {
 };
 
 // The row of a code, which is a byte of the command word: here the enums are made of it.
-#[tactic(auto, using(cells::proofs::Tests::tests), unfolding(crate::specs::Table::rule_of, crate::specs::Table::find, crate::specs::Table::controls, crate::specs::Table::searches, crate::specs::Table::reads, crate::specs::Table::writes))]
+#[tactic(auto, unfolding(crate::proofs::Laws::row_of_code))]
 pub fn rule_of(code: u8) -> Rule
     ensures { result ≡ rule_of code }
 {

@@ -201,7 +201,7 @@ fn task_at(h: Head, place: u16) -> Result<Task, Row>
 }
 
 // The last arm is for Next, NextForData and NextForKey: with more than one call of `to_served` plans went through memory (DECISIONS 97).
-#[tactic(auto, unfolding(command::specs::Command::aimed, command::specs::Command::marks_of, command::specs::Command::to_served, hunt::specs::Hunt::count_first))]
+#[tactic(auto, unfolding(command::specs::Command::aimed, command::specs::Command::marks_of, hunt::specs::Hunt::count_first))]
 fn aimed(r: Rule, track: &Track, s: Position, o: Orders, a: Aim) -> Result<Task, Row>
     requires { SelectedOn (marks track.now) o.selection }
     ensures { result ≡ aimed r (marks_of (alone track.now)) s o a }
