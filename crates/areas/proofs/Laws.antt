@@ -10,11 +10,11 @@ use lib.Seq.{get_or-take, get_or-drop}
 use native.Mathlib.Nat.{add-zero, add_assoc}
 use lib.Dec.{lit<}
 use borrow.Author.Tests.{ne_eqb, eq-eqb}
-use Rattle.cells.specs.Cells.{pick, both, part, be16, byte_of, bytes_of, all_bytes}
+use Rattle.cells.specs.Cells.{pick, both, part, byte_of, bytes_of, all_bytes}
 use Rattle.cells.proofs.Laws.{get_or-bytes_of}
 use Rattle.house_check.specs.Check.{agrees, good_cells}
 use Rattle.areas.specs.declared.{Area.Area, Counts.Counts}
-use Rattle.areas.specs.Areas.{home_area, home_flag, area_cells, readable, area_bytes, count_area, counts_of, counts_at, key_cells, flag_after}
+use Rattle.areas.specs.Areas.{home_area, home_flag, area_cells, readable, area_bytes, count_area, counts_by, counts_of, counts_at, key_cells, flag_after}
 use Rattle.areas.specs.Parts.{part_no, part_named}
 use mathlib.Core.Logic.{◌⊎◌, inl, inr}
 use denote.Bor.{Bor}
@@ -76,29 +76,28 @@ home_flag_lem t = area_byte t home_area 0 (lit< tt)
 
 -- the count area's values are those of its cells
 module _ (t : List ℕ) (c : ℕ) where
-  one : (i x : ℕ) → i < 9 → x ≡ byte_of (get_or t (c + i) 0) → x ≡ get_or (area_bytes t (count_area c)) i 0
-  one i x h e = e ∙ sym (count_byte t c i h)
+  behind : (k : ℕ) → k < 8 → byte_of (get_or t (c + 1 + k) 0) ≡ get_or (area_bytes t (count_area c)) (1 + k) 0
+  behind k h = ap (λ (j : ℕ). byte_of (get_or t j 0)) (add_assoc c 1 k) ∙ sym (count_byte t c (1 + k) (omega arith))
 
-  two : (i x : ℕ) → i < 8 → x ≡ byte_of (get_or t (c + i) 0) * 256 + byte_of (get_or t (c + i + 1) 0) → x ≡ be16 (area_bytes t (count_area c)) i
-  two i x h e =
-      e ∙ ap₂ (λ (y z : ℕ). y * 256 + z) (sym (count_byte t c i (omega arith)))
-      (ap (λ (j : ℕ). byte_of (get_or t j 0)) (add_assoc c i 1) ∙ sym (count_byte t c (i + 1) (omega arith)))
+  two : (k : ℕ) → k < 7 → byte_of (get_or t (c + 1 + k) 0) * 256 + byte_of (get_or t (c + 1 + (k + 1)) 0)
+      ≡ get_or (area_bytes t (count_area c)) (1 + k) 0 * 256 + get_or (area_bytes t (count_area c)) (1 + (k + 1)) 0
+  two k h = ap₂ (λ (y z : ℕ). y * 256 + z) (behind k (omega arith)) (behind (k + 1) (omega arith))
 
-  pub counts_are : (flag cc hh r kl dl : ℕ) → flag ≡ byte_of (get_or t c 0)
-      → cc ≡ byte_of (get_or t (c + 1) 0) * 256 + byte_of (get_or t (c + 1 + 1) 0)
-      → hh ≡ byte_of (get_or t (c + 3) 0) * 256 + byte_of (get_or t (c + 3 + 1) 0)
-      → r ≡ byte_of (get_or t (c + 5) 0) → kl ≡ byte_of (get_or t (c + 6) 0)
-      → dl ≡ byte_of (get_or t (c + 7) 0) * 256 + byte_of (get_or t (c + 7 + 1) 0)
-      → record { flag = flag; cc = cc; hh = hh; r = r; kl = kl; dl = dl } ≡ counts_at t c
-  unfolding counts_at counts_of
-  counts_are flag cc hh r kl dl p q u v w x = λ i. record {
-    flag = one 0 flag (lit< tt) (p ∙ ap (λ (j : ℕ). byte_of (get_or t j 0)) (sym (add-zero c))) i;
-    cc = two 1 cc (lit< tt) q i;
-    hh = two 3 hh (lit< tt) u i;
-    r = one 5 r (lit< tt) v i;
-    kl = one 6 kl (lit< tt) w i;
-    dl = two 7 dl (lit< tt) x i;
+  counts_there : (flag : ℕ) → flag ≡ byte_of (get_or t c 0) → counts_by flag (λ i. byte_of (get_or t (c + 1 + i) 0)) ≡ counts_at t c
+  unfolding counts_by counts_at counts_of
+  counts_there flag p = λ i. record {
+    flag = (p ∙ ap (λ (j : ℕ). byte_of (get_or t j 0)) (sym (add-zero c)) ∙ sym (count_byte t c 0 (lit< tt))) i;
+    cc = two 0 (lit< tt) i;
+    hh = two 2 (lit< tt) i;
+    r = behind 4 (lit< tt) i;
+    kl = behind 5 (lit< tt) i;
+    dl = two 6 (lit< tt) i;
   }
+
+pub counts_are : (t : List ℕ) (c first flag : ℕ) (n : Counts) → first ≡ c → flag ≡ byte_of (get_or t first 0)
+    → n ≡ counts_by flag (λ i. byte_of (get_or t (first + 1 + i) 0)) → n ≡ counts_at t c
+counts_are t c first flag n e p q =
+    q ∙ counts_there t first flag p ∙ ap (counts_at t) e
 
 -- ---- how many cells
 

@@ -69,6 +69,10 @@ counts_of v = record {
   dl = be16 v 7;
 }
 
+-- by its flag and by each of the bytes behind it
+unfoldable pub counts_by : ℕ → (ℕ → ℕ) → Counts
+counts_by flag b = record { flag = flag; cc = b 0 * 256 + b 1; hh = b 2 * 256 + b 3; r = b 4; kl = b 5; dl = b 6 * 256 + b 7 }
+
 -- the count area at c as it stands there
 unfoldable pub counts_at : List ℕ → ℕ → Counts
 counts_at t c = counts_of (area_bytes t (count_area c))

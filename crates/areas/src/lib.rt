@@ -1,10 +1,11 @@
 // The areas of a track: where each lies, whether it is readable, a count area's values, the flag bytes of what is written.
 #![tactic(auto)]
 
-ghost use Rattle.std.specs.Prelude.{◌≡◌, ◌+◌, ◌*◌, ◌<◌, get_or};
+ghost use Rattle.std.specs.Prelude.{◌≡◌, ◌+◌, ◌*◌, ◌^◌, ◌<◌, get_or};
 ghost use Rattle.cells.specs.Cells.{byte_of};
-ghost use Rattle.areas.specs.Areas.{readable, row_of, home_area, count_area, counts_at, read_count, key_cells, data_bytes, key_area, data_area, record_cells, end_by, needed, flag_of_r0, flag_after};
+ghost use Rattle.areas.specs.Areas.{readable, row_of, home_area, count_area, counts_by, counts_at, read_count, key_cells, data_bytes, key_area, data_area, record_cells, end_by, needed, flag_of_r0, flag_after};
 
+use cells::Byte;
 use rows::Row;
 
 mod numbers;
@@ -96,20 +97,29 @@ pub fn count_area(c: u16) -> Area
     }
 }
 
+// What a count says, by its flag and by the bytes behind it, which lie from an index on.
+#[tactic(auto, unfolding(crate::specs::Areas::counts_by))]
+pub fn counts_in<T: Byte>(flag: u8, s: &[T], at: usize) -> Counts
+    requires { at + 7 < 2 ^ 64 }
+    ensures { result ≡ counts_by flag (λ i. T.byte_at s.now (at + i)) }
+{
+    Counts {
+        flag,
+        cc: cells::pair_at(s, at),
+        hh: cells::pair_at(s, at + 2),
+        r: cells::byte_at(s, at + 4),
+        kl: cells::byte_at(s, at + 5),
+        dl: cells::pair_at(s, at + 6),
+    }
+}
+
 // The values of the count area at a cell, as they stand there.
 #[tactic(auto, using(crate::proofs::Laws::counts_are))]
 fn counts_at(track: &[u16], c: u16) -> Counts
     ensures { result ≡ counts_at track.now c }
 {
-    let i = usize::from(c);
-    Counts {
-        flag: cells::byte_at(track, i),
-        cc: cells::pair_at(track, i + 1),
-        hh: cells::pair_at(track, i + 3),
-        r: cells::byte_at(track, i + 5),
-        kl: cells::byte_at(track, i + 6),
-        dl: cells::pair_at(track, i + 7),
-    }
+    let first = usize::from(c);
+    counts_in(cells::byte_at(track, first), track, first + 1)
 }
 
 // The count area at a cell, read.

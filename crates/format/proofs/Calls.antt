@@ -15,8 +15,13 @@ use Rattle.cells.specs.Cells.{pick, both, part, overlay, padded, marker, all_byt
 use Rattle.cells.proofs.Laws.{length-padded, overlay_none, overlay-append}
 use Rattle.house_check.specs.Check.{cells_with_check}
 use Rattle.house_check.proofs.Cells.{length_laid}
+use mathlib.Core.Logic.{◌⊎◌, inl, inr}
+use denote.Bor.{Bor}
+use Rattle.std.specs.Prelude.{Some, None, Option}
+use Rattle.std.specs.Option.{MatchOption}
+use Rattle.std.specs.List.{slice_range}
 use Rattle.areas.specs.declared.{Area.Area, Counts.Counts}
-use Rattle.areas.specs.Areas.{area_cells, counts_of, key_cells, data_bytes, key_area, data_area, record_cells}
+use Rattle.areas.specs.Areas.{area_cells, counts_by, counts_of, key_cells, data_bytes, key_area, data_area, record_cells}
 use Rattle.areas.proofs.Laws.{length-area_cells, some_key}
 use Rattle.recording.specs.Recording.{area_written, count_written}
 use Rattle.format.specs.Format.{new_counts, new_key, new_data, new_record, recorded, Ends}
@@ -33,24 +38,21 @@ padded_at (suc n) (b ∷ v) zero h = refl
 padded_at (suc n) (b ∷ v) (suc i) h = padded_at n v i (omega arith)
 
 module _ (flag : ℕ) (v : List ℕ) where
-  one : (i x : ℕ) → i < 8 → x ≡ get_or v i 0 → x ≡ get_or (padded 8 v) i 0
-  one i x h e = e ∙ sym (padded_at 8 v i h)
+  one : (i : ℕ) → i < 8 → get_or v i 0 ≡ get_or (padded 8 v) i 0
+  one i h = sym (padded_at 8 v i h)
 
-  two : (i j x y z : ℕ) → i < 8 → j < 8 → x ≡ get_or v i 0 → y ≡ get_or v j 0 → z ≡ x * 256 + y → z ≡ get_or (padded 8 v) i 0 * 256 + get_or (padded 8 v) j 0
-  two i j x y z h k p q e = e ∙ ap₂ (λ (a b : ℕ). a * 256 + b) (one i x h p) (one j y k q)
+  two : (i : ℕ) → i < 7 → get_or v i 0 * 256 + get_or v (i + 1) 0 ≡ get_or (padded 8 v) i 0 * 256 + get_or (padded 8 v) (i + 1) 0
+  two i h = ap₂ (λ (a b : ℕ). a * 256 + b) (one i (omega arith)) (one (i + 1) (omega arith))
 
-  pub counts_new : (b0 b1 b2 b3 b4 b5 b6 b7 cc hh dl : ℕ) → b0 ≡ get_or v 0 0 → b1 ≡ get_or v 1 0 → cc ≡ b0 * 256 + b1
-      → b2 ≡ get_or v 2 0 → b3 ≡ get_or v 3 0 → hh ≡ b2 * 256 + b3 → b4 ≡ get_or v 4 0 → b5 ≡ get_or v 5 0
-      → b6 ≡ get_or v 6 0 → b7 ≡ get_or v 7 0 → dl ≡ b6 * 256 + b7
-      → record { flag = flag; cc = cc; hh = hh; r = b4; kl = b5; dl = dl } ≡ new_counts flag v
-  unfolding new_counts counts_of
-  counts_new b0 b1 b2 b3 b4 b5 b6 b7 cc hh dl e0 e1 ec e2 e3 eh e4 e5 e6 e7 ed = λ i. record {
+  pub counts_new : (n : Counts) → n ≡ counts_by flag (λ i. get_or v (0 + i) 0) → n ≡ new_counts flag v
+  unfolding counts_by new_counts counts_of
+  counts_new n e = e ∙ λ i. record {
     flag = flag;
-    cc = two 0 1 b0 b1 cc (lit< tt) (lit< tt) e0 e1 ec i;
-    hh = two 2 3 b2 b3 hh (lit< tt) (lit< tt) e2 e3 eh i;
-    r = one 4 b4 (lit< tt) e4 i;
-    kl = one 5 b5 (lit< tt) e5 i;
-    dl = two 6 7 b6 b7 dl (lit< tt) (lit< tt) e6 e7 ed i;
+    cc = two 0 (lit< tt) i;
+    hh = two 2 (lit< tt) i;
+    r = one 4 (lit< tt) i;
+    kl = one 5 (lit< tt) i;
+    dl = two 6 (lit< tt) i;
   }
 
 -- ---- a part of the bytes sent, as far as they are there
@@ -154,3 +156,13 @@ module _ (t : List ℕ) (a : Area) where
       let l : length (area_cells t a) ≡ a.bytes + 2 = length-area_cells t a ∙ omega arith in
       ap (λ (m : ℕ). all_bytes (take m (drop a.first t))) e
       ∙ sym (ap (λ (b : Bool). both b (all_bytes (area_cells t a))) (eq-eqb (length (area_cells t a)) (a.bytes + 2) l))
+
+-- by the cells that `get` lends, if it lends any
+pub recorded_lent : (t : List ℕ) (a : Area) (g : Option (Bor (List ℕ))) (r : Bool)
+    → MatchOption g ((a.first + a.bytes + 2 < a.first) ⊎ (length t < a.first + a.bytes + 2))
+    (λ x. (a.first ≤ a.first + a.bytes + 2) × (a.first + a.bytes + 2 ≤ length t) × (x.now ≡ slice_range t a.first (a.first + a.bytes + 2))
+    × (length x.now + a.first ≡ a.first + a.bytes + 2))
+    → MatchOption g (r ≡ false) (λ x. r ≡ all_bytes x.now) → r ≡ recorded t a
+recorded_lent t a None r (inl h) p = absurd (omega arith)
+recorded_lent t a None r (inr h) p = p ∙ sym (off_recorded t a h)
+recorded_lent t a (Some x) r (l, h, e, n) p = p ∙ ap all_bytes e ∙ on_recorded t a (a.first + a.bytes + 2 - a.first) (omega arith) h

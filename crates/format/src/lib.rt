@@ -12,17 +12,11 @@ use areas::{Area, Counts};
 pub const COUNT_SENT: u16 = 8;
 
 // What the count of a new record says, by its flag and the bytes sent.
+#[tactic(auto, using(crate::proofs::Calls::counts_new))]
 pub fn new_counts(flag: u8, bytes: &[u8]) -> Counts
     ensures { result ≡ new_counts flag bytes.now }
 {
-    Counts {
-        flag,
-        cc: cells::pair_at(bytes, 0),
-        hh: cells::pair_at(bytes, 2),
-        r: cells::byte_at(bytes, 4),
-        kl: cells::byte_at(bytes, 5),
-        dl: cells::pair_at(bytes, 6),
-    }
+    areas::counts_in(flag, bytes, 0)
 }
 
 // An area of n bytes recorded from a cell on, of the m bytes sent from an index on, which may lie past their end: so no slice of them. Here and below the cell
@@ -85,5 +79,5 @@ pub fn is_recorded(track: &[u16], a: Area) -> bool
 {
     let first = a.first as usize;
     let end = first + a.bytes as usize + areas::CHECK_CELLS;
-    end <= track.len() && house_check::all_bytes(&track[first..end])
+    track.get(first..end).is_some_and(house_check::all_bytes)
 }
