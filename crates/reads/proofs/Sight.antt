@@ -4,11 +4,12 @@ use mathlib.Core.Path.{◌≡◌, refl, sym, ap, ◌∙◌}
 use mathlib.Core.Bool.{Bool, true, false}
 use mathlib.Core.List.{List, [], ◌∷◌, ◌++◌}
 use native.Mathlib.Omega.{arith}
+use native.Mathlib.Nat.{add_assoc}
 use lib.ListN.{length, get_or, length-append}
 use Rattle.cells.specs.Cells.{pick, part, byte_of, bytes_of}
 use Rattle.cells.proofs.Laws.{part-cons}
 use Rattle.areas.specs.declared.{Counts.Counts}
-use Rattle.areas.specs.Areas.{counts_at}
+use Rattle.areas.specs.Areas.{counts_at, counts_by}
 use Rattle.areas.proofs.Laws.{counts_are}
 use Rattle.pack.specs.declared.{Head.Head}
 use Rattle.command.specs.Command.{Seen, id_of, count_moved, gets, seen_of, areas_of, areas_read, sight, Sighted, end_turn_at, end_turn, ending_of, offered, read_turn}
@@ -40,10 +41,6 @@ module _ (t : List ℕ) (c : ℕ) (h : c + 11 ≤ length t) where
   unfolding pair
   low i = omega arith
 
-  pair_is : (i : ℕ) → pair i ≡ byte_of (get_or t (c + i) 0) * 256 + byte_of (get_or t (c + i + 1) 0)
-  unfolding pair
-  pair_is i = let e : c + (i + 1) ≡ c + i + 1 = omega arith in ap (λ (k : ℕ). b i * 256 + byte_of (get_or t k 0)) e
-
   cell_next : (i n : ℕ) → i < 11 → bytes_of (part t (c + i) (suc n)) ≡ b i ∷ bytes_of (part t (c + (i + 1)) n)
   unfolding bytes_of
   cell_next i n q =
@@ -62,10 +59,16 @@ module _ (t : List ℕ) (c : ℕ) (h : c + 11 ≤ length t) where
       (cell_next 7 1 (omega arith) ∙ ap (λ (l : List ℕ). b 7 ∷ l)
       (cell_next 8 0 (omega arith))))))))
 
+  next : (i : ℕ) → byte_of (get_or t (c + 1 + i) 0) ≡ b (1 + i)
+  next i = ap (λ (k : ℕ). byte_of (get_or t k 0)) (add_assoc c 1 i)
+
+  counts_said : counts_at t c ≡ counts_by (byte_of (get_or t c 0)) (λ i. b (1 + i))
+  counts_said = sym (counts_are t c c (byte_of (get_or t c 0)) _ refl refl refl) ∙ (λ j. counts_by (byte_of (get_or t c 0)) (λ i. next i j))
+
   sent_at_lem : count_moved (counts_at t c) ≡ bytes_of (part t (c + 1) 8)
-  unfolding count_moved id_of
+  unfolding count_moved id_of counts_by pair
   sent_at_lem =
-      ap count_moved (sym (counts_are t c (byte_of (get_or t c 0)) (pair 1) (pair 3) (b 5) (b 6) (pair 7) refl (pair_is 1) (pair_is 3) refl refl (pair_is 7)))
+      ap count_moved counts_said
       ∙ (λ i. high 1 i ∷ low 1 i ∷ high 3 i ∷ low 3 i ∷ b 5 ∷ b 6 ∷ high 7 i ∷ low 7 i ∷ [])
       ∙ sym cells_sent
 
