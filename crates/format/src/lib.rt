@@ -37,9 +37,8 @@ fn lay_key(track: &mut [u16], first: usize, bytes: &[u8], n: Counts)
     ensures { track.new ≡ overlay track.old first (new_key n bytes.now) }
 {
     if 0 < n.kl {
-        // Casts, here and below: `From` is a call, and with it each answer has a step more for the same number.
-        let kl = n.kl as u16;
-        lay_area(track, first, kl as usize, bytes, COUNT_SENT, kl);
+        let kl = u16::from(n.kl);
+        lay_area(track, first, usize::from(kl), bytes, COUNT_SENT, kl);
     }
 }
 
@@ -48,11 +47,11 @@ pub fn lay_record(track: &mut [u16], c: u16, flag: u8, bytes: &[u8], n: Counts)
     requires { Ends track.old c flag bytes.now n }
     ensures { track.new ≡ overlay track.old c (new_record flag bytes.now) }
 {
-    recording::write_count(track, c as usize, flag, bytes);
+    recording::write_count(track, usize::from(c), flag, bytes);
     let key = areas::key_area(c, n);
     lay_key(track, key.first as usize, bytes, n);
     let d = areas::data_area(c, n);
-    let from = COUNT_SENT + n.kl as u16;
+    let from = COUNT_SENT + u16::from(n.kl);
     lay_area(track, d.first as usize, d.bytes as usize, bytes, from, n.dl);
 }
 
@@ -61,7 +60,7 @@ fn put_marker(track: &mut [u16], p: u16)
     requires { p < length track.old }
     ensures { track.new ≡ overlay track.old p (marker ∷ []) }
 {
-    track[p as usize] = cells::MARKER;
+    track[usize::from(p)] = cells::MARKER;
 }
 
 // A new record with its marker, which lies in a cell of the track.

@@ -1,17 +1,16 @@
 -- What a read gives, where it lies on the track: all that is named was readable.
 use Prim.Native.Nat.{ℕ, suc, ◌+◌, ◌*◌, ◌/◌, ◌%◌, ◌<◌, ◌≤◌}
-use mathlib.Core.Path.{◌≡◌, refl, sym, ap, ap₂, ◌∙◌}
+use mathlib.Core.Path.{◌≡◌, refl, sym, ap, ◌∙◌}
 use mathlib.Core.Bool.{Bool, true, false}
 use mathlib.Core.List.{List, [], ◌∷◌, ◌++◌}
 use native.Mathlib.Omega.{arith}
-use native.Mathlib.Nat.{add-zero, add_assoc}
-use lib.Dec.{lit<}
+use native.Mathlib.Nat.{add_assoc}
 use lib.ListN.{length, get_or, length-append}
-use Rattle.cells.specs.Cells.{pick, part, be16, byte_of, bytes_of}
+use Rattle.cells.specs.Cells.{pick, part, byte_of, bytes_of}
 use Rattle.cells.proofs.Laws.{part-cons}
 use Rattle.areas.specs.declared.{Counts.Counts}
-use Rattle.areas.specs.Areas.{area_bytes, count_area, counts_of, counts_at}
-use Rattle.areas.proofs.Laws.{count_byte}
+use Rattle.areas.specs.Areas.{counts_at, counts_by}
+use Rattle.areas.proofs.Laws.{counts_are}
 use Rattle.pack.specs.declared.{Head.Head}
 use Rattle.command.specs.Command.{Seen, id_of, count_moved, gets, seen_of, areas_of, areas_read, sight, Sighted, end_turn_at, end_turn, ending_of, offered, read_turn}
 use Rattle.command.proofs.Seen.{count-lies, record_counts, record_key, record_body, key_lies, body_lies, home_seen, home_lies}
@@ -24,33 +23,6 @@ use Rattle.reads.specs.declared.{Filling.Filling}
 use Rattle.reads.specs.Inside.{LieIf, LieAll, Puts, start, count_given, key_given, body_given, parts, bytes_given, many_given}
 use Rattle.reads.proofs.Laws.{long, all_put, none_put}
 use Rattle.std.specs.Prelude.{Ok}
-
--- ---- a count area's values, one by one
-
-module _ (t : List ℕ) (c : ℕ) where
-  one : (i x : ℕ) → i < 9 → x ≡ byte_of (get_or t (c + i) 0) → x ≡ get_or (area_bytes t (count_area c)) i 0
-  one i x h e = e ∙ sym (count_byte t c i h)
-
-  two : (i x : ℕ) → i < 8 → x ≡ byte_of (get_or t (c + i) 0) * 256 + byte_of (get_or t (c + i + 1) 0) → x ≡ be16 (area_bytes t (count_area c)) i
-  two i x h e =
-      e ∙ ap₂ (λ (y z : ℕ). y * 256 + z) (sym (count_byte t c i (omega arith)))
-      (ap (λ (j : ℕ). byte_of (get_or t j 0)) (add_assoc c i 1) ∙ sym (count_byte t c (i + 1) (omega arith)))
-
-  counts_are : (flag cc hh r kl dl : ℕ) → flag ≡ byte_of (get_or t c 0)
-      → cc ≡ byte_of (get_or t (c + 1) 0) * 256 + byte_of (get_or t (c + 1 + 1) 0)
-      → hh ≡ byte_of (get_or t (c + 3) 0) * 256 + byte_of (get_or t (c + 3 + 1) 0)
-      → r ≡ byte_of (get_or t (c + 5) 0) → kl ≡ byte_of (get_or t (c + 6) 0)
-      → dl ≡ byte_of (get_or t (c + 7) 0) * 256 + byte_of (get_or t (c + 7 + 1) 0)
-      → record { flag = flag; cc = cc; hh = hh; r = r; kl = kl; dl = dl } ≡ counts_at t c
-  unfolding counts_at counts_of
-  counts_are flag cc hh r kl dl p q u v w x = λ i. record {
-    flag = one 0 flag (lit< tt) (p ∙ ap (λ (j : ℕ). byte_of (get_or t j 0)) (sym (add-zero c))) i;
-    cc = two 1 cc (lit< tt) q i;
-    hh = two 3 hh (lit< tt) u i;
-    r = one 5 r (lit< tt) v i;
-    kl = one 6 kl (lit< tt) w i;
-    dl = two 7 dl (lit< tt) x i;
-  }
 
 -- ---- a count's 8 bytes are those of its cells but the flag's
 
@@ -68,10 +40,6 @@ module _ (t : List ℕ) (c : ℕ) (h : c + 11 ≤ length t) where
   low : (i : ℕ) → pair i % 256 ≡ b (i + 1)
   unfolding pair
   low i = omega arith
-
-  pair_is : (i : ℕ) → pair i ≡ byte_of (get_or t (c + i) 0) * 256 + byte_of (get_or t (c + i + 1) 0)
-  unfolding pair
-  pair_is i = let e : c + (i + 1) ≡ c + i + 1 = omega arith in ap (λ (k : ℕ). b i * 256 + byte_of (get_or t k 0)) e
 
   cell_next : (i n : ℕ) → i < 11 → bytes_of (part t (c + i) (suc n)) ≡ b i ∷ bytes_of (part t (c + (i + 1)) n)
   unfolding bytes_of
@@ -91,10 +59,16 @@ module _ (t : List ℕ) (c : ℕ) (h : c + 11 ≤ length t) where
       (cell_next 7 1 (omega arith) ∙ ap (λ (l : List ℕ). b 7 ∷ l)
       (cell_next 8 0 (omega arith))))))))
 
+  next : (i : ℕ) → byte_of (get_or t (c + 1 + i) 0) ≡ b (1 + i)
+  next i = ap (λ (k : ℕ). byte_of (get_or t k 0)) (add_assoc c 1 i)
+
+  counts_said : counts_at t c ≡ counts_by (byte_of (get_or t c 0)) (λ i. b (1 + i))
+  counts_said = sym (counts_are t c c (byte_of (get_or t c 0)) _ refl refl refl) ∙ (λ j. counts_by (byte_of (get_or t c 0)) (λ i. next i j))
+
   sent_at_lem : count_moved (counts_at t c) ≡ bytes_of (part t (c + 1) 8)
-  unfolding count_moved id_of
+  unfolding count_moved id_of counts_by pair
   sent_at_lem =
-      ap count_moved (sym (counts_are t c (byte_of (get_or t c 0)) (pair 1) (pair 3) (b 5) (b 6) (pair 7) refl (pair_is 1) (pair_is 3) refl refl (pair_is 7)))
+      ap count_moved counts_said
       ∙ (λ i. high 1 i ∷ low 1 i ∷ high 3 i ∷ low 3 i ∷ b 5 ∷ b 6 ∷ high 7 i ∷ low 7 i ∷ [])
       ∙ sym cells_sent
 

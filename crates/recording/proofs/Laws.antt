@@ -8,6 +8,7 @@ use lib.ListN.{length, get_or, take, drop, set, replicate, length-map, length-ap
 use lib.Seq.{take_all, drop-drop, take-append_seam}
 use borrow.Rule.Slice.PartMut.{put_mid}
 use Rattle.std.proofs.lemmas.List.{take_min}
+use Rattle.std.specs.Int.{w16, to_be_bytes}
 use Rattle.cells.specs.Cells.{overlay, padded, cell_of, bytes_of, cells_of}
 use Rattle.cells.proofs.Laws.{length-padded}
 use Rattle.cells.proofs.Numbers.{Bytes}
@@ -68,10 +69,13 @@ record_both n m v x y p e q = ap₂ (λ (a b : List ℕ). a ++ b) p q ∙ record
 
 -- ---- the check
 
-pub check_put : (l : List ℕ) (n s x : ℕ) → length l ≡ n + 2 → s ≡ x
-    → set (set l n (256 + s / 256)) (n + 1) (256 + s % 256) ≡ take n l ++ cells_of (sixteen x)
+pub check_put : (l : List ℕ) (n s x a b : ℕ) (v : List ℕ) → length l ≡ n + 2 → s ≡ x → s < 65536 → v ≡ to_be_bytes w16 s
+    → a ≡ cell_of (get_or v 0 0) → b ≡ cell_of (get_or v 1 0) → set (set l n a) (n + 1) b ≡ take n l ++ cells_of (sixteen x)
 unfolding cells_of
-check_put l n s x h e = rw (e, add-one n) (go l n h)
+check_put l n s x a b v h e low p q r =
+    let first : a ≡ 256 + s / 256 = q ∙ ap (λ (u : List ℕ). cell_of (get_or u 0 0)) p ∙ omega arith in
+    let second : b ≡ 256 + s % 256 = r ∙ ap (λ (u : List ℕ). cell_of (get_or u 1 0)) p in
+    rw (first, second, e, add-one n) (go l n h)
   where
     go : (l : List ℕ) (n : ℕ) → length l ≡ n + 2
         → set (set l n (256 + x / 256)) (suc n) (256 + x % 256) ≡ take n l ++ ((256 + x / 256) ∷ (256 + x % 256) ∷ [])

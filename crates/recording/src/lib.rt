@@ -53,8 +53,9 @@ fn record_check(area: &mut [u16])
 {
     let n = area.len() - CHECK_CELLS;
     let sum = house_check::check_of(&area[..n]);
-    area[n] = ZERO + sum / 256;
-    area[n + 1] = ZERO + sum % 256;
+    let [high, low] = sum.to_be_bytes();
+    area[n] = cell_of(high);
+    area[n + 1] = cell_of(low);
 }
 
 // An area of n bytes recorded from a cell on, with its check; n stands beside the bytes, which may be fewer or more. Here and below the cell goes beside the
