@@ -88,7 +88,11 @@ fn put_record(p: Parts, c: u16, n: Counts, track: &[u16], r: Filling, into: &mut
     requires { LieAll track.now p c n × (r.at ≤ length into.old) }
     ensures { Puts into.old r (record_given track.now p c n) into.new result }
 {
-    let count = cells_at(track, u32::from(c) + FLAG, bytes_if(p.counted, format::COUNT_SENT));
+    let count = cells_at(
+        track,
+        u32::from(c) + FLAG,
+        bytes_if(p.counted, format::COUNT_SENT),
+    );
     let counted = put(count, r, into);
     let keys = areas::key_area(c, n);
     let key = cells_at(track, keys.first, bytes_if(p.key, u16::from(n.kl)));
