@@ -56,6 +56,7 @@ pub struct Counts {
 }
 
 // Whether an area is readable. The track is lent beside it: an area says where it lies, on any track.
+#[tactic(auto, using(crate::proofs::Laws::off_track, crate::proofs::Laws::on_track_lem))]
 pub fn is_readable(track: &[u16], a: Area) -> bool
     ensures { result ≡ readable track.now a }
 {

@@ -1,13 +1,19 @@
--- What the code says of a control command is what is reported of the model's turn.
-use Prim.Native.Nat.{ℕ}
-use mathlib.Core.Path.{◌≡◌, refl}
+-- What the code says of a control command is what is reported of the model's turn; and the bytes that Sense gives.
+use Prim.Native.Nat.{ℕ, zero, suc, ◌+◌, ◌-◌, ◌≤◌, ◌<◌, min}
+use mathlib.Core.Path.{◌≡◌, refl, sym, ap, ◌∙◌}
 use mathlib.Core.Bool.{Bool, false}
 use mathlib.Core.List.{List}
-use Rattle.cells.specs.Cells.{marks}
+use native.Mathlib.Nat.{zero-add}
+use native.Mathlib.Omega.{arith}
+use lib.ListN.{length, get_or, take, drop, set, replicate, length-drop}
+use lib.Seq.{take-length, get_or-drop}
+use Rattle.cells.specs.Cells.{overlay, marks}
+use Rattle.cells.proofs.Laws.{take_min, put_more}
 use Rattle.cells.proofs.Tests.{first_picked, second_picked}
 use Rattle.rows.specs.declared.{Row.Row}
 use Rattle.pack.specs.declared.{Cylinder.Cylinder, Head.Head, Shape.Shape}
 use Rattle.held.specs.Held.{no_sense}
+use Rattle.held.specs.declared.{Position.Position}
 use Rattle.hunt.specs.Hunt.{space_record}
 use Rattle.turn.specs.declared.Ending.TheVariants.{Normal}
 use Rattle.table.specs.declared.{Rule.Rule, Control.Control}
@@ -18,6 +24,42 @@ use Rattle.command.specs.declared.{Job.Job}
 use Rattle.command.specs.Command.{task, sight, end_turn_at, end_turn, fail_turn, position_after, orders_after, arrival_turn, masked_turn, no_op_turn, sense_turn, sense_bytes, spaced_place, space_turn, control_turn}
 use Rattle.ending.specs.Ending.{report, report_at}
 use Rattle.std.specs.Prelude.{None, Ok, Err, Result, true}
+
+-- ---- the bytes of sense
+
+zeros : (n i : ℕ) → get_or {A = ℕ} (replicate n 0) i 0 ≡ 0
+zeros zero i = refl
+zeros (suc n) zero = refl
+zeros (suc n) (suc i) = zeros n i
+
+module _ (s : Position) where
+  -- all but the first two are 0
+  pub sense-rest : (i : ℕ) → 2 ≤ i → get_or (sense_bytes s) i 0 ≡ 0
+  unfolding sense_bytes
+  sense-rest zero h = absurd (omega arith)
+  sense-rest (suc zero) h = absurd (omega arith)
+  sense-rest (suc (suc i)) h = zeros 4 i
+
+  module _ (from : ℕ) where
+    -- there are six
+    left : length (drop from (sense_bytes s)) ≡ 6 - from
+    unfolding sense_bytes
+    left = length-drop from (sense_bytes s)
+
+    -- one more of them
+    pub sense_more : (l : List ℕ) (i : ℕ) → i < length l → i < 6 - from
+        → set (overlay l 0 (take i (drop from (sense_bytes s)))) i (get_or (sense_bytes s) (from + i) 0) ≡ overlay l 0 (take (i + 1) (drop from (sense_bytes s)))
+    sense_more l i h k =
+        ap (set (overlay l 0 (take i (drop from (sense_bytes s)))) i) (sym (get_or-drop from (sense_bytes s) i 0))
+        ∙ (simp zero-add at (put_more l 0 (drop from (sense_bytes s)) i (simp zero-add h) (rw (left) k)))
+
+    -- no more than there are
+    pub sense_room : (m : ℕ) → take (min m (6 - from)) (drop from (sense_bytes s)) ≡ take m (drop from (sense_bytes s))
+    sense_room m =
+        ap (λ (n : ℕ). take (min m n) (drop from (sense_bytes s))) (sym left)
+        ∙ sym (take_min m _ (drop from (sense_bytes s))) ∙ ap (take m) (take-length (drop from (sense_bytes s)))
+
+-- ---- control commands
 
 pub spaced : (t : List ℕ) (j : Job) (v : List ℕ) (r : Report) (p : ℕ) (home : Bool) (rule : Rule)
     → r ≡ report_at j (task j.task.head p None 0) Normal Transfer.None false

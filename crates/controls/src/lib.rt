@@ -1,7 +1,7 @@
 // The control commands.
 #![tactic(auto)]
 
-ghost use Rattle.std.specs.Prelude.{◌≡◌, List, ℕ};
+ghost use Rattle.std.specs.Prelude.{◌≡◌, List, ℕ, get_or};
 ghost use Rattle.turn.specs.Turn.{Tracks, alone, report_of, filled};
 ghost use Rattle.command.specs.Command.{sight, sense_bytes, addressed, arrival_turn, masked_turn, mask_turn, space_turn, control_turn};
 
@@ -125,14 +125,25 @@ pub fn control(g: Shape, k: Control, j: Job, sent: &[u8], track: &Track) -> Repo
     }
 }
 
+// Byte i of what Sense gives.
+fn sense_byte(s: Position, i: usize) -> u8
+    ensures { result ≡ get_or (sense_bytes s) i 0 }
+{
+    match i {
+        0 => s.sense.byte0,
+        1 => s.sense.byte1,
+        _ => 0,
+    }
+}
+
 // The bytes that Sense gives, from one on, put into lent bytes, as many as find room. The number counts bytes of Sense, not the lent ones, so it goes beside
-// them.
-#[tactic(auto, unfolding(turn::specs::Turn::filled, command::specs::Command::sense_bytes, cells::specs::Cells::overlay))]
+// them. One byte after another: of a copy of so many the compiler makes a call of memcpy, which a host would have to bring.
 pub fn give_sense(s: Position, from: u32, into: &mut [u8])
     ensures { into.new ≡ filled into.old from (sense_bytes s) }
 {
-    let sense = [s.sense.byte0, s.sense.byte1, 0, 0, 0, 0];
-    let left = &sense[sense.len().min(from as usize)..];
-    let n = left.len().min(into.len());
-    into[..n].copy_from_slice(&left[..n]);
+    let first = from as usize;
+    let n = into.len().min(SENSE.saturating_sub(from) as usize);
+    for i in 0..n {
+        into[i] = sense_byte(s, first + i);
+    }
 }

@@ -1,7 +1,7 @@
 // The figures of document 01 that are run and not proved, each by a function of its own, which writes its lines.
 #![tactic(auto)]
 
-ghost use Rattle.std.specs.Prelude.{◌+◌, ◌≤◌, length};
+ghost use Rattle.std.specs.Prelude.{◌+◌, ◌≤◌, length, IfOk};
 
 use held::Held;
 use host::Answer;
@@ -26,7 +26,7 @@ const ONE_TRACK: Shape = Shape {
 fn figure_10<R: Read, W: Write>(input: &mut R, out: &mut W) -> io::Result<()> {
     // A byte more than the longest text, so that one that is too long is seen.
     let mut buffer = [0u8; 65];
-    let n = io::copy(&mut input.take(65), &mut &mut buffer[..])?;
+    let n = read_full(input, &mut buffer)?;
     if n == 0 {
         return writeln!(out, "10. Refused: no text on standard input.");
     }
@@ -34,7 +34,23 @@ fn figure_10<R: Read, W: Write>(input: &mut R, out: &mut W) -> io::Result<()> {
         return writeln!(out, "10. Refused: more than 64 bytes on standard input.");
     }
     let mut track = [0u16; 66];
-    check_line(out, &buffer[..n as usize], &mut track)
+    check_line(out, &buffer[..n], &mut track)
+}
+
+// Reads until the buffer is full or the input ends: how many bytes were read. A read that was interrupted fails like any other, which std's copying would try
+// again.
+fn read_full<R: Read>(input: &mut R, buffer: &mut [u8]) -> io::Result<usize>
+    ensures { IfOk result (λ n. n ≤ length buffer.new) }
+{
+    let mut done = 0;
+    while done < buffer.len() {
+        let n = input.read(&mut buffer[done..])?;
+        if n == 0 {
+            break;
+        }
+        done += n;
+    }
+    Ok(done)
 }
 
 fn check_line<W: Write>(out: &mut W, text: &[u8], track: &mut [u16]) -> io::Result<()>

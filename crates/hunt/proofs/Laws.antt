@@ -2,7 +2,7 @@
 use Prim.Native.Nat.{ℕ, zero, suc, ◌+◌, ◌-◌, ◌<◌, ◌≤◌, max}
 use mathlib.Core.Path.{◌≡◌, refl, sym, ap, ◌∙◌}
 use mathlib.Core.Bool.{Bool, true, false, not, cond}
-use mathlib.Core.List.{List}
+use mathlib.Core.List.{List, [], ◌∷◌, ◌++◌}
 use native.Mathlib.Numerals.{add-one}
 use native.Mathlib.Nat.{zero-add}
 use native.Mathlib.Omega.{arith}
@@ -10,10 +10,12 @@ use native.Mathlib.Decide.{dec_lt}
 use lib.ListN.{length, get_or, take, drop, drop_of_length-le}
 use lib.Seq.{drop-cons}
 use lib.Dec.{eqb}
+use Rattle.std.proofs.Math.Seq.{take-add}
+use Rattle.std.proofs.lemmas.List.{drop-drop}
 use borrow.Author.Tests.{le-leb, lt-ltb, le-ltb, eqb-false, not-true}
 use Rattle.cells.specs.Cells.{pick, both, mark_at, marks}
 use Rattle.cells.proofs.Marks.{length-marks, get_or-marks, mark_none, mark_low}
-use Rattle.cells.proofs.Tests.{first_of, second_of}
+use Rattle.cells.proofs.Tests.{first_of, second_of, both_of}
 use Rattle.hunt.specs.declared.Spot.TheVariants.{R0}
 use Rattle.hunt.specs.Hunt.{markerless, scan, hunt, ahead_or, next_id}
 use Rattle.std.specs.List.{find, range_with_len}
@@ -28,7 +30,7 @@ module _ (t : List ℕ) (p : ℕ) where
       ap (λ (m : List Bool). scan m p) (drop-cons (marks t) p false k)
       ∙ ap (λ (x : Bool). pick x (Some p) (scan (drop (suc p) (marks t)) (suc p))) (get_or-marks t p ∙ e)
 
-  hunt_end : length t ≤ p → hunt (marks t) p ≡ None
+  pub hunt_end : length t ≤ p → hunt (marks t) p ≡ None
   unfolding hunt scan
   hunt_end h =
       let k : length (marks t) ≤ p = omega (arith, length-marks t) in
@@ -42,18 +44,15 @@ up : (t : List ℕ) (n p : ℕ) → n + p ≡ 7 → 7 ≤ length t → hunt (mar
 up t zero p e h = ap (hunt (marks t)) (sym (zero-add p) ∙ e)
 up t (suc n) p e h = low_on t p (omega arith) h ∙ up t n (suc p) (omega arith) h
 
-hunt_first : (t : List ℕ) (p : ℕ) → 7 ≤ length t → hunt (marks t) p ≡ hunt (marks t) (max p 7)
+pub hunt_first : (t : List ℕ) (p : ℕ) → 7 ≤ length t → hunt (marks t) p ≡ hunt (marks t) (max p 7)
 hunt_first t p h = go (dec_lt p 7)
   where
     go : Dec (p < 7) → hunt (marks t) p ≡ hunt (marks t) (max p 7)
     go (yes k) = up t (7 - p) p (omega arith) h ∙ ap (hunt (marks t)) (omega arith)
     go (no k) = ap (hunt (marks t)) (omega arith)
 
-pub hunt_past : (t : List ℕ) (p : ℕ) → 7 ≤ length t → length t < max p 7 → None ≡ hunt (marks t) p
-hunt_past t p h k = sym (hunt_first t p h ∙ hunt_end t (max p 7) (omega arith))
-
 -- from cell 7 on it comes to the first of the cells that holds 512
-mark_is : (t : List ℕ) (p : ℕ) → 7 ≤ p → mark_at t p ≡ eqb (get_or t p 0) 512
+pub mark_is : (t : List ℕ) (p : ℕ) → 7 ≤ p → mark_at t p ≡ eqb (get_or t p 0) 512
 unfolding mark_at
 mark_is t p h = ap (λ (b : Bool). both b (eqb (get_or t p 0) 512)) (le-leb 7 p h)
 
@@ -81,10 +80,27 @@ over t (suc n) p q b e h =
     hunt_by t p false (mark_none t p (eqb-false x 512 (not-true _ (first_of _ _ d)))) k
     ∙ over t n (suc p) q (second_of (not (eqb x 512)) _ d) (omega arith) h
 
--- a hunt may begin behind such cells
-pub hunt_bare : (t : List ℕ) (p n : ℕ) → 7 ≤ length t → max p 7 + n ≤ length t → markerless (take n (drop (max p 7) t)) ≡ true
-    → hunt (marks t) (max p 7 + n) ≡ hunt (marks t) p
-hunt_bare t p n h k b = sym (hunt_first t p h ∙ over t n (max p 7) (max p 7 + n) b (omega arith) k)
+-- none of no cells, and of those up to i and on to j
+pub none_passed : (t : List ℕ) (p : ℕ) → markerless (take (p - p) (drop p t)) ≡ true
+unfolding markerless
+none_passed t p = let e : p - p ≡ 0 = omega arith in ap (λ (n : ℕ). markerless (take n (drop p t))) e
+
+markerless-append : (x y : List ℕ) → markerless x ≡ true → markerless y ≡ true → markerless (x ++ y) ≡ true
+unfolding markerless
+markerless-append [] y e h = h
+markerless-append (a ∷ x) y e h = both_of (first_of (not (eqb a 512)) _ e) (markerless-append x y (second_of (not (eqb a 512)) _ e) h)
+
+pub bare_more : (t : List ℕ) (p i j : ℕ) → p ≤ i → i ≤ j → markerless (take (i - p) (drop p t)) ≡ true → markerless (take (j - i) (drop i t)) ≡ true
+    → markerless (take (j - p) (drop p t)) ≡ true
+bare_more t p i j h k e f =
+    let n : j - p ≡ (i - p) + (j - i) = omega arith in
+    let rest : drop (i - p) (drop p t) ≡ drop i t = drop-drop (i - p) p t ∙ ap (λ (m : ℕ). drop m t) (omega arith) in
+    ap (λ (m : ℕ). markerless (take m (drop p t))) n ∙ ap markerless (take-add (i - p) (j - i) (drop p t))
+    ∙ markerless-append _ _ e (ap (λ (l : List ℕ). markerless (take (j - i) l)) rest ∙ f)
+
+-- a hunt from p may begin at q, if the cells between are such
+pub hunt_bare : (t : List ℕ) (p q : ℕ) (f : Option ℕ) → hunt (marks t) p ≡ f → p ≤ q → q ≤ length t → markerless (take (q - p) (drop p t)) ≡ true → hunt (marks t) q ≡ f
+hunt_bare t p q f e h k b = sym (over t (q - p) p q b (omega arith) k) ∙ e
 
 -- ---- the record that Search ID takes, by what the hunt finds
 

@@ -1,5 +1,5 @@
 -- What the code's looks come to, in the model's words.
-use Rattle.std.proofs.Common.{ℕ, ◌≡◌, ◌<◌, ◌≤◌, List, length, Option, Some, None, Ok, Err, eqb, Bool, true, false, refl, sym, ap, ◌∙◌, arith}
+use Rattle.std.proofs.Common.{ℕ, ◌≡◌, ◌<◌, ◌≤◌, List, length, Option, Some, None, Result, Ok, Err, eqb, Bool, true, false, refl, sym, ap, ◌∙◌, arith}
 use lib.Dec.{leb}
 use Rattle.std.proofs.lemmas.Result.{MatchResult-at_ok, MatchResult-at_err}
 use Rattle.std.specs.Option.{unwrap_or}
@@ -35,6 +35,10 @@ no_track t place h = ap (λ b. marked_no (pick b (marked_by (hunt (marks t) plac
 -- of two tests one is known
 both_is : {a : Bool} (b : Bool) → a ≡ true → both a b ≡ b
 both_is b e = ap (λ a. both a b) e
+
+-- what a number names, another names that is equal to it
+pub of_number : (x : Result Part NoPart) (q p : ℕ) → x ≡ part_named q → q ≡ p → x ≡ part_named p
+of_number x q p e h = e ∙ ap part_named h
 
 -- a part that has a number is the part of that number
 

@@ -84,7 +84,7 @@ fn look_part(track: &Track, c: u16, part: Part) -> Result<Area, Unseen>
 }
 
 // A look at one area, by its part's number.
-#[tactic(auto, unfolding(crate::specs::Look::call_fits))]
+#[tactic(auto, using(crate::proofs::Laws::look_wrong), unfolding(crate::specs::Look::call_fits))]
 fn look(track: &[u16], c: u16, p: u8) -> Result<Area, Unseen>
     ensures { result ≡ pick (call_fits (length track.now) c p 2) (part_look track.now c (part_of p)) (Err Unseen.WrongCall) }
 {

@@ -12,7 +12,7 @@ use Rattle.areas.specs.Areas.{home_area, count_area, key_area, data_area, readab
 use Rattle.pack.specs.declared.{Head.Head}
 use Rattle.command.specs.Command.{area_if, named, named_by, no_counts, on_head, areas_of, all_read, counts_in, gets}
 use Rattle.table.specs.declared.{Names.Names}
-use Rattle.turn.specs.Turn.{alone}
+use Rattle.turn.specs.Turn.{Tracks, alone}
 use Rattle.std.specs.Prelude.{Some, None, Ok, Err, Result, Option}
 use Rattle.std.specs.Option.{ok_or}
 use Rattle.std.specs.Result.{IsErrAnd}
@@ -80,35 +80,38 @@ module _ (t : List ℕ) (h : Head) where
 
 -- ---- by the count area
 
+-- what is got once the count area is read, on any tracks: an unreadable one ends it
+abbrev pub counted : Tracks → Head → ℕ → Bool → Bool → Result Counts Row → Result Counts Row
+counted w h c key body (Ok n) = all_read w (on_head h (named c key body n)) (Ok n)
+counted w h c key body (Err row) = Err row
+
+pub count_told : (w : Tracks) (h : Head) (c : ℕ) (key body : Bool)
+    → gets (Names.Count key body) w h c ≡ counted w h c key body (ok_or (read_count (w h) c) UnreadableCount)
+unfolding gets areas_of all_read on_head named_by read_count counts_in row_of
+count_told w h c key body = go (readable (w h) (count_area c))
+  where
+    n : Counts
+    n = counts_at (w h) c
+
+    go : (b : Bool)
+        → pick b (all_read w (on_head h (named_by c key body (pick b (Some n) None))) (Ok n)) (Err UnreadableCount)
+        ≡ counted w h c key body (ok_or (pick b (Some n) None) UnreadableCount)
+    go true = refl
+    go false = refl
+
 module _ (t : List ℕ) (h : Head) (c : ℕ) (key body : Bool) where
-  by_count : Result Counts Row → Result Counts Row
-  by_count (Ok n) = all_read (alone t) (on_head h (named c key body n)) (Ok n)
-  by_count (Err row) = Err row
-
-  count_first : by_count (ok_or (read_count t c) UnreadableCount) ≡ gets (Names.Count key body) (alone t) h c
-  unfolding gets areas_of all_read on_head named_by read_count counts_in row_of by_count
-  count_first = go (readable t (count_area c))
-    where
-      n : Counts
-      n = counts_at t c
-
-      go : (b : Bool)
-          → by_count (ok_or (pick b (Some n) None) UnreadableCount)
-          ≡ pick b (all_read (alone t) (on_head h (named_by c key body (pick b (Some n) None))) (Ok n)) (Err UnreadableCount)
-      go true = refl
-      go false = refl
-
   module _ (x : Option Counts) (q : x ≡ read_count t c) where
+    by_count : counted (alone t) h c key body (ok_or x UnreadableCount) ≡ gets (Names.Count key body) (alone t) h c
+    by_count = ap (λ o. counted (alone t) h c key body (ok_or o UnreadableCount)) q ∙ sym (count_told (alone t) h c key body)
+
     pub count_fails : (row : Row) (g : Result Counts Row) → Err row ≡ ok_or x UnreadableCount → IsErrAnd g (λ z. z ≡ row) → g ≡ gets (Names.Count key body) (alone t) h c
-    unfolding by_count
     count_fails row g e w =
         let z = err_from_is_err_and g w in
-        z.1 ∙ ap Err z.2 ∙ ap by_count (e ∙ ap (λ o. ok_or o UnreadableCount) q) ∙ count_first
+        z.1 ∙ ap Err z.2 ∙ ap (counted (alone t) h c key body) e ∙ by_count
 
     pub count_reads : (n : Counts) (g : Result Counts Row) → Ok n ≡ ok_or x UnreadableCount → g ≡ all_read (alone t) (on_head h (named c key body n)) (Ok n)
         → g ≡ gets (Names.Count key body) (alone t) h c
-    unfolding by_count
-    count_reads n g e w = w ∙ ap by_count (e ∙ ap (λ o. ok_or o UnreadableCount) q) ∙ count_first
+    count_reads n g e w = w ∙ ap (counted (alone t) h c key body) e ∙ by_count
 
 -- ---- by what is named
 

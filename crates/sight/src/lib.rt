@@ -37,16 +37,18 @@ fn check_if(there: bool, track: &[u16], a: Area) -> Result<(), Row>
     if there { check(track, a) } else { Ok(()) }
 }
 
-// The key and the data of a record, if they are named and there. The key's row stands before the data's.
+// The key and the data of a record, if they are named and there: the data first, then the key, whose row stands over the data's.
 fn read_named(track: &[u16], c: u16, key: bool, body: bool, n: Counts) -> Result<Counts, Row>
     ensures { (h : Head) → result ≡ all_read (alone track.now) (on_head h (named c key body n)) (Ok n) }
 {
+    let data = check_if(is_there(body, n.dl), track, areas::data_area(c, n));
     check_if(is_there(key, u16::from(n.kl)), track, areas::key_area(c, n))?;
-    check_if(is_there(body, n.dl), track, areas::data_area(c, n))?;
+    data?;
     Ok(n)
 }
 
 // A record.
+#[tactic(auto, using(crate::proofs::Laws::count_told))]
 fn read_record(track: &[u16], c: u16, key: bool, body: bool) -> Result<Counts, Row>
     ensures { (h : Head) → result ≡ gets (Names.Count key body) (alone track.now) h c }
 {

@@ -1,7 +1,8 @@
 -- The lesser of the two.
+use native.Mathlib.Omega.{arith}
 use Rattle.channel.specs.Channel.{bytes_moved}
 use Rattle.channel.proofs.bytes_moved.Goals as goal
 
 pub returns : goal.returns
 unfolding bytes_moved
-returns c = rw (← c.from.ensures, ← c.wants.ensures) c.min.ensures
+returns c = omega arith
