@@ -38,7 +38,8 @@ fn is_bare(cells: &[u16]) -> bool
 }
 
 // The cell that a hunt may begin at instead: strides without a marker are passed over, since markers are few. By the cell's number: over chunks, by
-// `chunks_exact` or `as_chunks`, the loop's last jump comes to lie across 16 bytes, and in half of all places that a linker may choose it takes twice the time.
+// `chunks_exact` or `as_chunks`, the loop's last jump lies across a line of 16 bytes, and takes some 1.7 times as long in half of all places that a linker
+// may choose.
 fn pass_over(track: &Track, from: u16) -> u16
     ensures on { (from ≤ result) × (hunt (marks track.now) result ≡ hunt (marks track.now) from) }
     ensures within { result ≤ max from track_cells }

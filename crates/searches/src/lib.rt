@@ -67,7 +67,7 @@ fn end_by(satisfied: bool) -> Ending
     Ending::Normal
 }
 
-// The first cell of the field: a key lies behind the count area, an ID behind the flag. It is a place and no code: where nothing is named, any would do.
+// The first cell of the field: a key lies behind the count area, an ID behind the flag. It is a place and no code; where nothing is named, 0 as in the model.
 #[tactic(auto, unfolding(crate::specs::Field::field_first))]
 fn field_first(names: Names, place: u16) -> usize
     ensures { result ≡ field_first names place }

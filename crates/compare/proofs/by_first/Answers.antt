@@ -1,14 +1,16 @@
--- The library compares what the two chains yield: the low bytes of the cells, and the bytes sent.
-use Rattle.std.proofs.Common.{◌≡◌, rules, refl}
-use Rattle.std.specs.Ordering.{nat_cmp}
-use Rattle.cells.specs.Cells.{byte_of}
-use Rattle.std.proofs.lemmas.Iterator.{YieldsList-from_slice, YieldsList-from_map}
-use Rattle.std.proofs.lemmas.Iterator.Consumers.{YieldsList-from_copied}
-use Rattle.std.proofs.lemmas.Iterator.Search.{cmp_from_yields_List}
+-- `find` over both gives the first cell and byte that differ, or none; what that tells is the library's order.
+use Rattle.std.proofs.Common.{rules, tests, ap, ◌∙◌}
+use Rattle.std.proofs.lemmas.Iterator.{YieldsList-from_slice, YieldsList-from_zip}
+use Rattle.std.proofs.lemmas.Iterator.Search.{find_from_yields_List}
+use Rattle.compare.proofs.Laws.{differ, told, told_first, told_by}
 use Rattle.compare.proofs.by_first.Goals as goal
 
 pub returns : goal.returns
 returns c =
-    cmp_from_yields_List (λ x y. y ≡ x) _ nat_cmp _ c.cmp.ensures.ran
-    (YieldsList-from_map _ byte_of (YieldsList-from_slice c.args.on_track.now cc) c.map-bytes.ensures.closure (λ x r q k. search rules))
-    (λ it e. YieldsList-from_copied (YieldsList-from_slice c.args.sent.now cc)) (λ x y. refl)
+    let f = c.args.on_track.now in
+    let v = c.args.sent.now in
+    told_by _ c.find-different.result _ f v c.map_or.ensures (λ i. i ∙ c.cmp-by_length.ensures) (λ x h. search rules)
+    ∙ ap (told f v)
+    (find_from_yields_List differ c.find-different.new.self _ _ c.find-different.ensures.ran
+    (YieldsList-from_zip (YieldsList-from_slice f cc) (YieldsList-from_slice v cc)) (λ x b q k. search (rules, tests)))
+    ∙ told_first f v
